@@ -1,6 +1,6 @@
 pub mod Bags
 pub mod Chain
 pub mod Limits
-pub mod World
-pub mod Face
 pub mod Tags
+pub mod face
+pub mod world

@@ -35,9 +35,9 @@ mod tickets;
 
 ghost use Rattle.std.specs.Prelude.{◌≡◌, ◌<◌, ℕ, List, [], ◌∷◌, IsTrue, true, false, IfOk, IfSome, MatchResult, length, unwrap_or, replicate, is_some, if◌then◌else◌, ◌&&◌};
 ghost use Rattle.std.specs.Result.{result_ok};
-ghost use Rattle.crossbeam_epoch.specs.World.Machine.{place, opened, registered, blank, null};
+ghost use Rattle.crossbeam_epoch.specs.world.Machine.{place, opened, registered, blank, null};
 ghost use Rattle.crossbeam_epoch.specs.Limits.{within};
-ghost use Rattle.crossbeam_epoch.specs.World.Reach.{Quiet, moment, HasMoments, NextMoment};
+ghost use Rattle.crossbeam_epoch.specs.world.Reach.{Quiet, moment, HasMoments, NextMoment};
 
 use crate::bag::Bag;
 use crate::chain::Chain;
@@ -67,7 +67,7 @@ pub struct World<T, J: Task> {
 }
 
 impl<T, J: Task> Model for World<T, J> {
-    ghost use Rattle.crossbeam_epoch.specs.World.Machine.{State};
+    ghost use Rattle.crossbeam_epoch.specs.world.Machine.{State};
 
     ghost Value = { State T J };
 

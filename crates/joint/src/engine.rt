@@ -18,7 +18,7 @@ pub(crate) mod waiting;
 
 ghost use Rattle.std.specs.Prelude.{◌≡◌, ◌<◌, ℕ, List, Some, length, slice_get, slice_set, replicate, true, IfOk, MatchResult, if◌then◌else◌};
 ghost use Rattle.crossbeam_epoch.specs.declared.bag.Work.{Work};
-ghost use Rattle.crossbeam_epoch.specs.World.Machine.{deferred, place};
+ghost use Rattle.crossbeam_epoch.specs.world.Machine.{deferred, place};
 ghost use Rattle.congee.specs.protocol.Play.{begun};
 ghost use Rattle.joint.specs.nodes.Nodes.{nodes, with_collector};
 ghost use Rattle.joint.specs.engine.Intact.{IsSecuring, MayStart, BeginsSecuring, Secured, call_after, cleared, is_reserving, resting};

@@ -2,7 +2,7 @@
 use Rattle.std.specs.Prelude.{◌≡◌, ◌<◌, ◌⊎◌, ℕ, zero, suc, Bool, true, false, ◌&&◌, nat_eq, nat_lt, if◌then◌else◌, List, [], MatchOption, Option, None, Some, IfSome, Result, Ok, Err, ◌^◌, ◌-◌, length}
 use Rattle.std.specs.FinMap.{entries}
 use Rattle.std.specs.List.{sum_by}
-use Rattle.crossbeam_epoch.specs.World.Ending.{registered_in}
+use Rattle.crossbeam_epoch.specs.world.Ending.{registered_in}
 use Rattle.judge.specs.declared.checker.Verdict.TheVariants as verdict
 use Rattle.judge.specs.Answer.{Pairs}
 use Rattle.judge.specs.Journal.{IsLegal}

@@ -1,8 +1,8 @@
 //! Pointers that threads share.
 
 ghost use Rattle.std.specs.Prelude.{◌≡◌, ◌≢◌, ◌⊎◌, ◌%◌, ◌<◌, true, false, MatchResult, IfErr, IfSome, IsErr, MatchOption};
-ghost use Rattle.crossbeam_epoch.specs.Face.Exchange.{Gave, GaveNext, GaveNone, Updates, IsExchange, IsRefused, RefusesForeign};
-ghost use Rattle.crossbeam_epoch.specs.Face.Pointer.{is_foreign};
+ghost use Rattle.crossbeam_epoch.specs.face.Exchange.{Gave, GaveNext, GaveNone, Updates, IsExchange, IsRefused, RefusesForeign};
+ghost use Rattle.crossbeam_epoch.specs.face.Pointer.{is_foreign};
 
 use crate::face::atomic_link::{AtomicLink, Found, Replaced};
 use crate::face::guard::Guard;

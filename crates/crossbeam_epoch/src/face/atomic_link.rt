@@ -4,7 +4,7 @@
 //! pointer to another collector's cell lies under a lock, and the word says so.
 
 ghost use Rattle.std.specs.Prelude.{◌≡◌, ◌<◌, ◌%◌, IfSome};
-ghost use Rattle.crossbeam_epoch.specs.Face.Packed.{Says};
+ghost use Rattle.crossbeam_epoch.specs.face.Packed.{Says};
 
 use crate::face::link::{Link, Tagged};
 use crate::face::packed::{AWAY, pack, unpack};

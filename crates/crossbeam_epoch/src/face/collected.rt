@@ -2,7 +2,7 @@
 
 ghost use Rattle.std.specs.Prelude.{◌≡◌, ◌≤◌, ◌<◌, ◌+◌, ◌⊎◌, Some, None, IfSome, is_some};
 ghost use Rattle.crossbeam_epoch.specs.Limits.{most_bags};
-ghost use Rattle.crossbeam_epoch.specs.Face.Pins.{IsDue};
+ghost use Rattle.crossbeam_epoch.specs.face.Pins.{IsDue};
 
 use crate::face::pins::Attempt;
 use crate::face::queue::{Emptied, NoneExpired};

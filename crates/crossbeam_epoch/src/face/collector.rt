@@ -4,10 +4,10 @@ ghost use Rattle.std.specs.Prelude.{◌≡◌, ◌<◌, ◌≤◌, ◌+◌, ◌^
 ghost use Rattle.std.specs.Bool.{MatchBool};
 ghost use Rattle.crossbeam_epoch.specs.Bags.{jobs_in};
 ghost use Rattle.crossbeam_epoch.specs.Limits.{within, most_bags};
-ghost use Rattle.crossbeam_epoch.specs.Face.Attempt.{IsAttempt};
-ghost use Rattle.crossbeam_epoch.specs.Face.Pins.{IsRead, IsDue};
-ghost use Rattle.crossbeam_epoch.specs.Face.Queue.{IsTaken, TakesAll};
-ghost use Rattle.crossbeam_epoch.specs.Face.Tokens.{known, IsOf};
+ghost use Rattle.crossbeam_epoch.specs.face.Attempt.{IsAttempt};
+ghost use Rattle.crossbeam_epoch.specs.face.Pins.{IsRead, IsDue};
+ghost use Rattle.crossbeam_epoch.specs.face.Queue.{IsTaken, TakesAll};
+ghost use Rattle.crossbeam_epoch.specs.face.Tokens.{known, IsOf};
 
 use crate::bag::{BAGS, Bag, Sealed, Work};
 use crate::face::collected::Collected;

@@ -4,14 +4,14 @@ ghost use Rattle.std.specs.Prelude.{ℕ, ◌≡◌, ◌<◌, ◌≤◌, ◌+◌,
 ghost use Rattle.std.specs.Prelude.{length, Err, None, MatchResult, MatchOption, IfOk, IfErr, OnOk, IsSomeAnd};
 ghost use Rattle.std.specs.Bool.{MatchBool};
 ghost use Rattle.crossbeam_epoch.specs.Bags.{jobs_in};
-ghost use Rattle.crossbeam_epoch.specs.Face.Attempt.{IsAttempt};
-ghost use Rattle.crossbeam_epoch.specs.Face.Handle.{ChangesBag, ChangesBagUnder, IsRefusedUnder, LacksRoom, PutsOff, SealsFull, SealsUnder, owns, with_room};
-ghost use Rattle.crossbeam_epoch.specs.Face.Pinned.{IsPinnedFor, IsUnpinnedAfter, MovesIfAlone, MovesPin, RefusesToMove};
-ghost use Rattle.crossbeam_epoch.specs.Face.Participant.{IsPinned};
-ghost use Rattle.crossbeam_epoch.specs.Face.Pins.{IsDue, with_seen};
-ghost use Rattle.crossbeam_epoch.specs.Face.Tokens.{known, IsOf, unpinned_view};
-ghost use Rattle.crossbeam_epoch.specs.Face.Pointer.{name_in};
-ghost use Rattle.crossbeam_epoch.specs.Face.Queue.{TakesAll};
+ghost use Rattle.crossbeam_epoch.specs.face.Attempt.{IsAttempt};
+ghost use Rattle.crossbeam_epoch.specs.face.Handle.{ChangesBag, ChangesBagUnder, IsRefusedUnder, LacksRoom, PutsOff, SealsFull, SealsUnder, owns, with_room};
+ghost use Rattle.crossbeam_epoch.specs.face.Pinned.{IsPinnedFor, IsUnpinnedAfter, MovesIfAlone, MovesPin, RefusesToMove};
+ghost use Rattle.crossbeam_epoch.specs.face.Participant.{IsPinned};
+ghost use Rattle.crossbeam_epoch.specs.face.Pins.{IsDue, with_seen};
+ghost use Rattle.crossbeam_epoch.specs.face.Tokens.{known, IsOf, unpinned_view};
+ghost use Rattle.crossbeam_epoch.specs.face.Pointer.{name_in};
+ghost use Rattle.crossbeam_epoch.specs.face.Queue.{TakesAll};
 ghost use Rattle.crossbeam_epoch.specs.Limits.{bag_places};
 
 use crate::bag::{Bag, Deferral, Work};
@@ -58,8 +58,8 @@ pub struct Seals {
 
 impl<'c, T, J: Task> Model for LocalHandle<'c, T, J> {
     ghost use Rattle.std.specs.Prelude.{◌≡◌, ◌<◌};
-    ghost use Rattle.crossbeam_epoch.specs.Face.Participant.{Handle};
-    ghost use Rattle.crossbeam_epoch.specs.Face.Tokens.{known, IsOf, with_guards};
+    ghost use Rattle.crossbeam_epoch.specs.face.Participant.{Handle};
+    ghost use Rattle.crossbeam_epoch.specs.face.Tokens.{known, IsOf, with_guards};
 
     ghost Value = { Handle T J };
 

@@ -6,7 +6,7 @@
 //! whose seal is two behind was filled before every pin of now.
 
 ghost use Rattle.std.specs.Prelude.{◌≡◌, [], IfOk};
-ghost use Rattle.crossbeam_epoch.specs.World.Store.{opened_store};
+ghost use Rattle.crossbeam_epoch.specs.world.Store.{opened_store};
 
 use crate::face::queue::Queue;
 use crate::limits::Limits;

@@ -1,6 +1,6 @@
 //! What follows from the rule of the words.
 
-ghost use Rattle.crossbeam_epoch.specs.Face.Pins.{PinsHoldEpoch};
+ghost use Rattle.crossbeam_epoch.specs.face.Pins.{PinsHoldEpoch};
 
 use crate::face::collector::Collector;
 use crate::task::Task;

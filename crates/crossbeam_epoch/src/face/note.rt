@@ -1,8 +1,8 @@
 //! What one handle tells another of the epochs that it saw.
 
 ghost use Rattle.std.specs.Prelude.{◌≡◌};
-ghost use Rattle.crossbeam_epoch.specs.Face.Pins.{newcomer, with_seen};
-ghost use Rattle.crossbeam_epoch.specs.Face.Tokens.{known, IsOf};
+ghost use Rattle.crossbeam_epoch.specs.face.Pins.{newcomer, with_seen};
+ghost use Rattle.crossbeam_epoch.specs.face.Tokens.{known, IsOf};
 
 use crate::face::collector::Collector;
 use crate::face::seats::Token;

@@ -1,7 +1,7 @@
 //! Memory orderings of `compare_and_set`.
 
 ghost use Rattle.std.specs.Prelude.{◌≡◌};
-ghost use Rattle.crossbeam_epoch.specs.Face.Ordering.{failure_of};
+ghost use Rattle.crossbeam_epoch.specs.face.Ordering.{failure_of};
 
 use std::sync::atomic::Ordering;
 

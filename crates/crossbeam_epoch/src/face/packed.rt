@@ -1,7 +1,7 @@
 //! A pointer as one word: the tag in the low 8 bits, the turn in the 32 above it, and the cell's number in the high 24.
 
 ghost use Rattle.std.specs.Prelude.{◌≡◌, ◌≤◌, ◌%◌, ℕ, IfSome, None};
-ghost use Rattle.crossbeam_epoch.specs.Face.Packed.{word_of, no_cell, Says};
+ghost use Rattle.crossbeam_epoch.specs.face.Packed.{word_of, no_cell, Says};
 ghost use Rattle.crossbeam_epoch.specs.declared.face.link.Link.{Link};
 
 use crate::face::link::{Link, Site};

@@ -3,9 +3,9 @@
 mod attempt;
 
 ghost use Rattle.std.specs.Prelude.{◌≡◌, true, false, ◌<◌, ◌≤◌, ◌+◌, ◌^◌, None, Some, IfOk, IfErr, MatchOption};
-ghost use Rattle.crossbeam_epoch.specs.Face.Attempt.{IsAttempt};
-ghost use Rattle.crossbeam_epoch.specs.Face.Pins.{word_of, newcomer, noted, with_seen, IsRead, Passes};
-ghost use Rattle.crossbeam_epoch.specs.Face.Tokens.{known, IsOf, unpinned_view, pinned_view};
+ghost use Rattle.crossbeam_epoch.specs.face.Attempt.{IsAttempt};
+ghost use Rattle.crossbeam_epoch.specs.face.Pins.{word_of, newcomer, noted, with_seen, IsRead, Passes};
+ghost use Rattle.crossbeam_epoch.specs.face.Tokens.{known, IsOf, unpinned_view, pinned_view};
 
 use crate::face::seats::{
     Arrive, Claim, Confirm, Count, Extent, Heeding, Leave, Look, Noting, Publish, Release, Token,

@@ -1,7 +1,7 @@
 //! What can be put into an `Atomic`.
 
 ghost use Rattle.std.specs.Prelude.{◌≡◌};
-ghost use Rattle.crossbeam_epoch.specs.Face.Pointer.{is_foreign};
+ghost use Rattle.crossbeam_epoch.specs.face.Pointer.{is_foreign};
 
 use crate::face::guard::Guard;
 use crate::face::link::{Link, Site, Tagged};
@@ -95,7 +95,7 @@ impl<T: Pointable + Drop> Pointer<T> for Owned<T> {
 }
 
 impl<'s, T: Pointable + Drop> Pointer<T> for Shared<'s, T> {
-    ghost use Rattle.crossbeam_epoch.specs.Face.Pointer.{is_foreign};
+    ghost use Rattle.crossbeam_epoch.specs.face.Pointer.{is_foreign};
     ghost use Rattle.crossbeam_epoch.specs.declared.fault.Fault.TheVariants.{Foreign};
 
     ghost tag_bits = { λ s. s.link.tag };
@@ -133,7 +133,7 @@ impl<'s, T: Pointable + Drop> Pointer<T> for Shared<'s, T> {
 
 /// A pointer without a guard's lifetime (own).
 impl<T: Pointable + Drop> Pointer<T> for Link {
-    ghost use Rattle.crossbeam_epoch.specs.Face.Pointer.{is_foreign};
+    ghost use Rattle.crossbeam_epoch.specs.face.Pointer.{is_foreign};
     ghost use Rattle.crossbeam_epoch.specs.declared.fault.Fault.TheVariants.{Foreign};
 
     ghost tag_bits = { λ l. l.tag };

@@ -2,8 +2,8 @@
 
 ghost use Rattle.std.specs.Prelude.{◌≡◌, ◌≤◌, ◌<◌, ◌+◌, ◌∷◌, [], ◌++◌, MatchOption, length, slice_index_or, true, false};
 ghost use Rattle.crossbeam_epoch.specs.Bags.{jobs_in};
-ghost use Rattle.crossbeam_epoch.specs.Face.Queue.{is_front_expired};
-ghost use Rattle.crossbeam_epoch.specs.Face.Tokens.{known};
+ghost use Rattle.crossbeam_epoch.specs.face.Queue.{is_front_expired};
+ghost use Rattle.crossbeam_epoch.specs.face.Tokens.{known};
 
 use crate::bag::{Bag, Sealed, Work};
 use crate::chain::Chain;

@@ -3,7 +3,7 @@
 //! Word 0 is the epoch. Word 16 p + 16 is place p's: 0 where it is nobody's, 1 where its participant is unpinned, and
 //! e + 2 where it is pinned at e. The factor keeps the words of two places 128 bytes apart.
 
-ghost use Rattle.crossbeam_epoch.specs.Face.Pins.{seat_arrived, seat_claimed, seat_counted, seat_looked, seat_published, seat_confirmed, seat_left, seat_released, seat_inspected, seat_advanced, newcomer, noted, with_note};
+ghost use Rattle.crossbeam_epoch.specs.face.Pins.{seat_arrived, seat_claimed, seat_counted, seat_looked, seat_published, seat_confirmed, seat_left, seat_released, seat_inspected, seat_advanced, newcomer, noted, with_note};
 
 use atomic_table::{Join, Play, Seat, Split, Table, TableRule};
 use std::alloc::Global;
@@ -37,7 +37,7 @@ pub struct View {
 pub struct Epochs;
 
 impl TableRule<(), View, Extent> for Epochs {
-    ghost use Rattle.crossbeam_epoch.specs.Face.Pins.{IsKept, newcomer};
+    ghost use Rattle.crossbeam_epoch.specs.face.Pins.{IsKept, newcomer};
 
     ghost holds = { λ k. IsKept k.places k.epoch_max };
 

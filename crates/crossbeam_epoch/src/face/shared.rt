@@ -1,7 +1,7 @@
 //! Pointers that a guard protects.
 
 ghost use Rattle.std.specs.Prelude.{◌≡◌, ◌%◌, not, is_some, is_ok, true, None, IfSome};
-ghost use Rattle.crossbeam_epoch.specs.Face.Pointer.{name_in};
+ghost use Rattle.crossbeam_epoch.specs.face.Pointer.{name_in};
 
 use crate::face::collector::Collector;
 use crate::face::guard::Guard;

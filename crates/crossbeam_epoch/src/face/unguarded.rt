@@ -1,7 +1,7 @@
 //! What stands for a guard where nothing else uses the collector.
 
 ghost use Rattle.std.specs.Prelude.{◌≡◌, None, MatchResult, IsErrAnd};
-ghost use Rattle.crossbeam_epoch.specs.Face.Pointer.{name_in};
+ghost use Rattle.crossbeam_epoch.specs.face.Pointer.{name_in};
 
 use crate::face::collector::Collector;
 use crate::face::shared::Shared;

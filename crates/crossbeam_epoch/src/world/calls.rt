@@ -1,16 +1,16 @@
 //! Steps, runs of steps, and whole calls.
 
 ghost use Rattle.std.specs.Prelude.{◌≡◌, ◌≢◌, ◌⊎◌, true, ◌<◌, ◌≤◌, ℕ, List, ◌∷◌, length, min, take as first_of, drop as behind, vec_len, vec_capacity, None, Some, ◌+◌, ◌-◌};
-ghost use Rattle.crossbeam_epoch.specs.World.Machine.{place};
-ghost use Rattle.crossbeam_epoch.specs.World.Steps.{after, busy_fault, marks, IsReport, state_after, AreReports, history_after};
+ghost use Rattle.crossbeam_epoch.specs.world.Machine.{place};
+ghost use Rattle.crossbeam_epoch.specs.world.Steps.{after, busy_fault, marks, IsReport, state_after, AreReports, history_after};
 ghost use Rattle.crossbeam_epoch.specs.declared.world.report.Report.{Report};
-ghost use Rattle.crossbeam_epoch.specs.World.Calls.{IsCall, IsWholeCall, Extends};
-ghost use Rattle.crossbeam_epoch.specs.World.Fits.{Fits};
-ghost use Rattle.crossbeam_epoch.specs.World.History.{Mark};
-ghost use Rattle.crossbeam_epoch.specs.World.Progress.{Orderly, IsOn, steps_left};
-ghost use Rattle.crossbeam_epoch.specs.World.WaitFree.{most_steps, steps_in_flight, AllEndInTime, IsOver};
-ghost use Rattle.crossbeam_epoch.specs.World.Log.{LogLine, Stepped, log_after, Shows};
-ghost use Rattle.crossbeam_epoch.specs.World.Reach.{Moment, step_act, moments_after, HasMoments, NextMoment};
+ghost use Rattle.crossbeam_epoch.specs.world.Calls.{IsCall, IsWholeCall, Extends};
+ghost use Rattle.crossbeam_epoch.specs.world.Fits.{Fits};
+ghost use Rattle.crossbeam_epoch.specs.world.History.{Mark};
+ghost use Rattle.crossbeam_epoch.specs.world.Progress.{Orderly, IsOn, steps_left};
+ghost use Rattle.crossbeam_epoch.specs.world.WaitFree.{most_steps, steps_in_flight, AllEndInTime, IsOver};
+ghost use Rattle.crossbeam_epoch.specs.world.Log.{LogLine, Stepped, log_after, Shows};
+ghost use Rattle.crossbeam_epoch.specs.world.Reach.{Moment, step_act, moments_after, HasMoments, NextMoment};
 
 use crate::fault::Fault;
 use crate::names::{Links, Pointable};

@@ -2,7 +2,7 @@
 
 ghost use Rattle.std.specs.Prelude.{◌≡◌, ◌<◌, ◌≤◌, ℕ, IsTrue, length, true, false, None, Some, IfOk, IfErr, MatchResult, is_some, if◌then◌else◌};
 ghost use Rattle.std.specs.Option.{option_copied};
-ghost use Rattle.crossbeam_epoch.specs.World.Store.{value_at, cell_at, IsNext, placed, emptied, replaced, is_usable, opened_store};
+ghost use Rattle.crossbeam_epoch.specs.world.Store.{value_at, cell_at, IsNext, placed, emptied, replaced, is_usable, opened_store};
 
 use crate::names::Name;
 use std::alloc::{AllocError, Global};
@@ -27,8 +27,8 @@ pub struct Cells<T> {
 
 impl<T> Model for Cells<T> {
     ghost use Rattle.std.specs.Prelude.{◌≤◌, vec_capacity};
-    ghost use Rattle.crossbeam_epoch.specs.World.Store.{Store};
-    ghost use Rattle.crossbeam_epoch.specs.World.Free.{FitsFree};
+    ghost use Rattle.crossbeam_epoch.specs.world.Store.{Store};
+    ghost use Rattle.crossbeam_epoch.specs.world.Free.{FitsFree};
 
     ghost Value = { Store T };
 

@@ -1,8 +1,8 @@
 //! The atomic steps of a collection: load, inspect, advance, take, call.
 
 ghost use Rattle.std.specs.Prelude.{◌≡◌, ◌<◌, length};
-ghost use Rattle.crossbeam_epoch.specs.World.Machine.{place, inspected, inspection, ends_advance, advanced, is_due, took, called, after_call, destroys, after_work};
-ghost use Rattle.crossbeam_epoch.specs.World.Steps.{outcome_at, called_by};
+ghost use Rattle.crossbeam_epoch.specs.world.Machine.{place, inspected, inspection, ends_advance, advanced, is_due, took, called, after_call, destroys, after_work};
+ghost use Rattle.crossbeam_epoch.specs.world.Steps.{outcome_at, called_by};
 
 use crate::bag::{BAGS, Deferral, Sealed, Work};
 use crate::names::{Links, Name, Pointable};

@@ -1,10 +1,10 @@
 //! Deferrals.
 
 ghost use Rattle.std.specs.Prelude.{◌≡◌, ◌<◌, List, ◌∷◌, length, IfOk, OnOk, OnErr, IfErr, MatchResult, None, Some, ◌^◌, ◌-◌, ◌==◌, ◌&&◌, not, true, false, if◌then◌else◌};
-ghost use Rattle.crossbeam_epoch.specs.World.Machine.{place, deferred, deferred_anew, after_deferral, name_of};
-ghost use Rattle.crossbeam_epoch.specs.World.Steps.{defer_fault, destroy_fault, quiet_fault, IsDeferralFault};
-ghost use Rattle.crossbeam_epoch.specs.World.History.{Deferred};
-ghost use Rattle.crossbeam_epoch.specs.World.Reach.{Quiet, Marked, NextMoment};
+ghost use Rattle.crossbeam_epoch.specs.world.Machine.{place, deferred, deferred_anew, after_deferral, name_of};
+ghost use Rattle.crossbeam_epoch.specs.world.Steps.{defer_fault, destroy_fault, quiet_fault, IsDeferralFault};
+ghost use Rattle.crossbeam_epoch.specs.world.History.{Deferred};
+ghost use Rattle.crossbeam_epoch.specs.world.Reach.{Quiet, Marked, NextMoment};
 ghost use Rattle.crossbeam_epoch.specs.Limits.{bag_places};
 
 use crate::bag::{BAG, Deferral, Sealed, Work};

@@ -1,8 +1,8 @@
 //! The end of a collector.
 
 ghost use Rattle.std.specs.Prelude.{◌≡◌, ◌<◌, ◌-◌, ℕ, List, length, min, IfOk, OnOk, MatchResult};
-ghost use Rattle.crossbeam_epoch.specs.World.Ending.{registered_in, jobs_of, after_jobs, history_of_calls, IsEnded};
-ghost use Rattle.crossbeam_epoch.specs.World.Reach.{Moment, marks_of, HasMoments};
+ghost use Rattle.crossbeam_epoch.specs.world.Ending.{registered_in, jobs_of, after_jobs, history_of_calls, IsEnded};
+ghost use Rattle.crossbeam_epoch.specs.world.Reach.{Moment, marks_of, HasMoments};
 
 use crate::bag::{Bag, Deferral, Sealed};
 use crate::chain::Chain;

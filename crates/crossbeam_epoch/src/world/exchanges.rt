@@ -2,10 +2,10 @@
 
 ghost use Rattle.std.specs.Prelude.{◌≡◌, ◌≢◌, ◌%◌, ◌<◌, List, ◌∷◌, ℕ, length, Some, IfOk, OnOk, IfErr, MatchResult};
 ghost use Rattle.std.specs.Prelude.{slice_get, is_ok, nat_lt, ◌&&◌, bit_and, bit_or, bit_xor};
-ghost use Rattle.crossbeam_epoch.specs.World.Machine.{stands};
-ghost use Rattle.crossbeam_epoch.specs.World.Roots.{root_at, with_root, with_tag_at};
+ghost use Rattle.crossbeam_epoch.specs.world.Machine.{stands};
+ghost use Rattle.crossbeam_epoch.specs.world.Roots.{root_at, with_root, with_tag_at};
 ghost use Rattle.crossbeam_epoch.specs.declared.names.Name.{Name};
-ghost use Rattle.crossbeam_epoch.specs.World.Reach.{Quiet, NextMoment, InSight};
+ghost use Rattle.crossbeam_epoch.specs.world.Reach.{Quiet, NextMoment, InSight};
 ghost use Rattle.crossbeam_epoch.specs.Tags.{changed};
 
 use crate::fault::Fault;

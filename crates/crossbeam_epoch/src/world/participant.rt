@@ -1,8 +1,8 @@
 //! The table's places, and where a call stands.
 
 ghost use Rattle.std.specs.Prelude.{◌≡◌, ◌+◌, ◌∷◌, [], ◌==◌, ◌&&◌, nat_le, nat_lt, if◌then◌else◌};
-ghost use Rattle.crossbeam_epoch.specs.World.Machine.{blank, ends_advance, is_at, published, relooked, repinned, secured};
-ghost use Rattle.crossbeam_epoch.specs.World.Steps.{begin_fault, begun_at, outcome_at, outcome_or, place_or, quiet_fault};
+ghost use Rattle.crossbeam_epoch.specs.world.Machine.{blank, ends_advance, is_at, published, relooked, repinned, secured};
+ghost use Rattle.crossbeam_epoch.specs.world.Steps.{begin_fault, begun_at, outcome_at, outcome_or, place_or, quiet_fault};
 ghost use Rattle.crossbeam_epoch.specs.Limits.{bag_places};
 
 use crate::bag::{BAG, Bag, Deferral};

@@ -1,10 +1,10 @@
 //! The roots of a collector.
 
 ghost use Rattle.std.specs.Prelude.{◌≡◌, ◌<◌, ◌≤◌, List, ◌∷◌, ℕ, length, Some, IfOk, OnOk, IfErr, slice_get, slice_set, is_ok, nat_lt, ◌&&◌};
-ghost use Rattle.crossbeam_epoch.specs.World.Machine.{with_roots, stands};
-ghost use Rattle.crossbeam_epoch.specs.World.Roots.{root_at};
+ghost use Rattle.crossbeam_epoch.specs.world.Machine.{with_roots, stands};
+ghost use Rattle.crossbeam_epoch.specs.world.Roots.{root_at};
 ghost use Rattle.crossbeam_epoch.specs.declared.names.Name.{Name};
-ghost use Rattle.crossbeam_epoch.specs.World.Reach.{Quiet, NextMoment, InSight};
+ghost use Rattle.crossbeam_epoch.specs.world.Reach.{Quiet, NextMoment, InSight};
 
 use crate::fault::Fault;
 use crate::names::{Links, Pointable, Ptr};

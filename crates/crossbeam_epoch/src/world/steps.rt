@@ -1,8 +1,8 @@
 //! The atomic steps of pins, repins, leaves and securings.
 
 ghost use Rattle.std.specs.Prelude.{◌≡◌, ◌<◌, ◌⊎◌, length};
-ghost use Rattle.crossbeam_epoch.specs.World.Machine.{place, with_place, in_phase, published, relooked, repinned, queued, released, secured};
-ghost use Rattle.crossbeam_epoch.specs.World.Steps.{begin_fault, begun_at, outcome_at, outcome_or, place_or};
+ghost use Rattle.crossbeam_epoch.specs.world.Machine.{place, with_place, in_phase, published, relooked, repinned, queued, released, secured};
+ghost use Rattle.crossbeam_epoch.specs.world.Steps.{begin_fault, begun_at, outcome_at, outcome_or, place_or};
 
 use crate::bag::Sealed;
 use crate::fault::Fault;

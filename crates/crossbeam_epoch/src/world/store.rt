@@ -2,10 +2,10 @@
 
 ghost use Rattle.std.specs.Prelude.{◌≡◌, List, ℕ, IsTrue, true, false, None, Some, IfOk, IfErr, OnErr, MatchResult, ◌∷◌, Contains};
 ghost use Rattle.std.specs.Option.{option_copied};
-ghost use Rattle.crossbeam_epoch.specs.World.Machine.{with_store};
-ghost use Rattle.crossbeam_epoch.specs.World.Store.{value_at, IsNext, placed, emptied, replaced, is_usable};
+ghost use Rattle.crossbeam_epoch.specs.world.Machine.{with_store};
+ghost use Rattle.crossbeam_epoch.specs.world.Store.{value_at, IsNext, placed, emptied, replaced, is_usable};
 ghost use Rattle.crossbeam_epoch.specs.declared.names.Name.{Name};
-ghost use Rattle.crossbeam_epoch.specs.World.Reach.{Moment, Quiet, GivenBack, HasMoments, WasLive, KeepsLinks, Visible, links_of, NextMoment};
+ghost use Rattle.crossbeam_epoch.specs.world.Reach.{Moment, Quiet, GivenBack, HasMoments, WasLive, KeepsLinks, Visible, links_of, NextMoment};
 
 use crate::fault::Fault;
 use crate::names::{Links, Name, Pointable};

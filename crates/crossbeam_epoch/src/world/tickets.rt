@@ -1,7 +1,7 @@
 //! Tickets of deferred jobs.
 
 ghost use Rattle.std.specs.Prelude.{◌≡◌, ◌<◌, ◌+◌, ◌-◌, ◌^◌, None};
-ghost use Rattle.crossbeam_epoch.specs.World.Steps.{or_count};
+ghost use Rattle.crossbeam_epoch.specs.world.Steps.{or_count};
 
 use crate::fault::Fault;
 use std::marker::Model;
@@ -15,7 +15,7 @@ pub struct Tickets {
 
 impl Model for Tickets {
     ghost use Rattle.std.specs.Prelude.{◌≤◌};
-    ghost use Rattle.crossbeam_epoch.specs.World.Tickets.{TicketCount};
+    ghost use Rattle.crossbeam_epoch.specs.world.Tickets.{TicketCount};
 
     ghost Value = { TicketCount };
 

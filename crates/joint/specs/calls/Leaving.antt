@@ -5,7 +5,7 @@ use Rattle.crossbeam_epoch.specs.Limits.{bag_places}
 use Rattle.crossbeam_epoch.specs.declared.bag.Work.TheVariants.{Remove}
 use Rattle.crossbeam_epoch.specs.declared.names.Name.{Name}
 use Rattle.crossbeam_epoch.specs.declared.world.participant.Phase.TheVariants as collector_phase
-use Rattle.crossbeam_epoch.specs.World.Machine.{place, deferred, with_store}
+use Rattle.crossbeam_epoch.specs.world.Machine.{place, deferred, with_store}
 use Rattle.congee.specs.Heap.{Stands}
 use Rattle.congee.specs.protocol.Handing.{InTree, IsOut, is_handed_over}
 use Rattle.joint.specs.declared.steps.Event.TheVariants.{Begin}

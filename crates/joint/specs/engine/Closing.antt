@@ -2,7 +2,7 @@
 use Rattle.std.specs.Prelude.{◌≡◌, ℕ, ◌<◌}
 use Rattle.std.specs.FinMap.{entries}
 use Rattle.judge.specs.Answer.{Pairs}
-use Rattle.crossbeam_epoch.specs.World.Ending.{registered_in}
+use Rattle.crossbeam_epoch.specs.world.Ending.{registered_in}
 use Rattle.congee.specs.Keys.{IsMapOf}
 use Rattle.joint.specs.declared.nodes.account.Account.{Account}
 use Rattle.joint.specs.declared.refusal.Refusal.{Refusal}

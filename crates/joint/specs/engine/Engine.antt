@@ -10,8 +10,8 @@ use Rattle.crossbeam_epoch.specs.declared.world.report.Event.TheVariants as coll
 use Rattle.crossbeam_epoch.specs.declared.world.report.Outcome.{Outcome as CollectorOutcome}
 use Rattle.crossbeam_epoch.specs.declared.world.report.Outcome.TheVariants as collector_outcome
 use Rattle.crossbeam_epoch.specs.declared.world.report.Report.{Report as Collection}
-use Rattle.crossbeam_epoch.specs.World.Machine.{place, registered}
-use Rattle.crossbeam_epoch.specs.World.Steps.{begin_fault, busy_fault, when}
+use Rattle.crossbeam_epoch.specs.world.Machine.{place, registered}
+use Rattle.crossbeam_epoch.specs.world.Steps.{begin_fault, busy_fault, when}
 use Rattle.congee.specs.declared.protocol.machine.Machine.{Machine}
 use Rattle.congee.specs.declared.protocol.machine.Move.{Move}
 use Rattle.congee.specs.declared.protocol.machine.Noise.{Noise}

@@ -2,9 +2,9 @@
 use Rattle.std.specs.Prelude.{◌≡◌, ℕ, is_some, if◌then◌else◌}
 use Rattle.crossbeam_epoch.specs.declared.bag.Deferral.{Deferral}
 use Rattle.crossbeam_epoch.specs.declared.names.Name.{Name}
-use Rattle.crossbeam_epoch.specs.World.Fits.{weight}
-use Rattle.crossbeam_epoch.specs.World.Machine.{name_of}
-use Rattle.crossbeam_epoch.specs.World.Sealing.{IsSealing, bit, counts_name}
+use Rattle.crossbeam_epoch.specs.world.Fits.{weight}
+use Rattle.crossbeam_epoch.specs.world.Machine.{name_of}
+use Rattle.crossbeam_epoch.specs.world.Sealing.{IsSealing, bit, counts_name}
 use Rattle.congee.specs.protocol.Handing.{is_handed_over}
 use Rattle.joint.specs.nodes.Nodes.{Nodes, nodes}
 use Rattle.joint.specs.Names.{number}

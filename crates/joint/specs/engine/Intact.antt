@@ -7,8 +7,8 @@ use Rattle.crossbeam_epoch.specs.declared.world.report.Event.TheVariants.{Begin,
 use Rattle.crossbeam_epoch.specs.declared.world.report.Report.{Report}
 use Rattle.crossbeam_epoch.specs.declared.world.report.Outcome.{Outcome}
 use Rattle.crossbeam_epoch.specs.declared.world.report.Outcome.TheVariants.{Running, Done, Refused}
-use Rattle.crossbeam_epoch.specs.World.Machine.{State, place}
-use Rattle.crossbeam_epoch.specs.World.Progress.{IsOn}
+use Rattle.crossbeam_epoch.specs.world.Machine.{State, place}
+use Rattle.crossbeam_epoch.specs.world.Progress.{IsOn}
 use Rattle.congee.specs.declared.protocol.machine.Machine.{Machine}
 use Rattle.congee.specs.declared.protocol.op.Op.{Op}
 use Rattle.congee.specs.declared.protocol.op.Op.TheVariants as point

@@ -13,14 +13,14 @@ use Rattle.crossbeam_epoch.specs.declared.world.report.Event.TheVariants as coll
 use Rattle.crossbeam_epoch.specs.declared.world.participant.Phase.TheVariants as collector_phase
 use Rattle.crossbeam_epoch.specs.declared.world.report.Op.{Op}
 use Rattle.crossbeam_epoch.specs.declared.world.report.Report.{Report}
-use Rattle.crossbeam_epoch.specs.World.Fits.{Fits, weight}
-use Rattle.crossbeam_epoch.specs.World.History.{Mark, AreCalledLater, WasDeferred, began}
-use Rattle.crossbeam_epoch.specs.World.Machine.{State, place, deferred, opened, registered, with_roots, with_store}
-use Rattle.crossbeam_epoch.specs.World.Progress.{Orderly, Moves, Begins, GoesOn, IsOn, KeepsCalls as Holds}
-use Rattle.crossbeam_epoch.specs.World.Sealing.{IsSealing}
-use Rattle.crossbeam_epoch.specs.World.Reach.{Act, Moment, with_act, marks_of, step_act, changes_pin, IsBy, IsDestruction, InReach, IsIn, WasIn, WasLive, Visible, EntersLive, DestructionsTold, IsCareful, IsNow, HasMoments, links_of}
-use Rattle.crossbeam_epoch.specs.World.Steps.{IsReport, after}
-use Rattle.crossbeam_epoch.specs.World.Store.{Store, Sets, value_at, was_given, emptied}
+use Rattle.crossbeam_epoch.specs.world.Fits.{Fits, weight}
+use Rattle.crossbeam_epoch.specs.world.History.{Mark, AreCalledLater, WasDeferred, began}
+use Rattle.crossbeam_epoch.specs.world.Machine.{State, place, deferred, opened, registered, with_roots, with_store}
+use Rattle.crossbeam_epoch.specs.world.Progress.{Orderly, Moves, Begins, GoesOn, IsOn, KeepsCalls as Holds}
+use Rattle.crossbeam_epoch.specs.world.Sealing.{IsSealing}
+use Rattle.crossbeam_epoch.specs.world.Reach.{Act, Moment, with_act, marks_of, step_act, changes_pin, IsBy, IsDestruction, InReach, IsIn, WasIn, WasLive, Visible, EntersLive, DestructionsTold, IsCareful, IsNow, HasMoments, links_of}
+use Rattle.crossbeam_epoch.specs.world.Steps.{IsReport, after}
+use Rattle.crossbeam_epoch.specs.world.Store.{Store, Sets, value_at, was_given, emptied}
 use Rattle.congee.specs.declared.forms.base_node.NodeType.{NodeType}
 use Rattle.congee.specs.declared.protocol.machine.Machine.{Machine}
 use Rattle.congee.specs.declared.protocol.machine.Move.{Move}

@@ -6,12 +6,12 @@ use Rattle.crossbeam_epoch.specs.declared.names.Name.{Name}
 use Rattle.crossbeam_epoch.specs.declared.world.participant.Phase.TheVariants.{Idle}
 use Rattle.crossbeam_epoch.specs.declared.world.report.Event.{Event}
 use Rattle.crossbeam_epoch.specs.declared.world.report.Report.{Report}
-use Rattle.crossbeam_epoch.specs.World.History.{WasDeferred}
-use Rattle.crossbeam_epoch.specs.World.Machine.{State, place, deferred, with_store}
-use Rattle.crossbeam_epoch.specs.World.Progress.{Moves}
-use Rattle.crossbeam_epoch.specs.World.Reach.{Moment, marks_of, WasIn}
-use Rattle.crossbeam_epoch.specs.World.Steps.{IsReport, after}
-use Rattle.crossbeam_epoch.specs.World.Store.{value_at}
+use Rattle.crossbeam_epoch.specs.world.History.{WasDeferred}
+use Rattle.crossbeam_epoch.specs.world.Machine.{State, place, deferred, with_store}
+use Rattle.crossbeam_epoch.specs.world.Progress.{Moves}
+use Rattle.crossbeam_epoch.specs.world.Reach.{Moment, marks_of, WasIn}
+use Rattle.crossbeam_epoch.specs.world.Steps.{IsReport, after}
+use Rattle.crossbeam_epoch.specs.world.Store.{value_at}
 use Rattle.congee.specs.declared.protocol.machine.Machine.{Machine}
 use Rattle.congee.specs.declared.protocol.phase.Phase.TheVariants.{Ended}
 use Rattle.congee.specs.declared.protocol.run.Step.{Step}

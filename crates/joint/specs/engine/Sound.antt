@@ -5,11 +5,11 @@ use Rattle.crossbeam_epoch.specs.Limits.{bag_places}
 use Rattle.crossbeam_epoch.specs.declared.names.Name.{Name}
 use Rattle.crossbeam_epoch.specs.declared.world.participant.Participant.{Participant}
 use Rattle.crossbeam_epoch.specs.declared.world.participant.Phase.TheVariants.{Idle}
-use Rattle.crossbeam_epoch.specs.World.History.{WasDeferred}
-use Rattle.crossbeam_epoch.specs.World.Machine.{State, place}
-use Rattle.crossbeam_epoch.specs.World.Store.{value_at}
-use Rattle.crossbeam_epoch.specs.World.Progress.{Orderly}
-use Rattle.crossbeam_epoch.specs.World.Reach.{Moment, marks_of, WasIn, Visible, IsCareful, HasMoments}
+use Rattle.crossbeam_epoch.specs.world.History.{WasDeferred}
+use Rattle.crossbeam_epoch.specs.world.Machine.{State, place}
+use Rattle.crossbeam_epoch.specs.world.Store.{value_at}
+use Rattle.crossbeam_epoch.specs.world.Progress.{Orderly}
+use Rattle.crossbeam_epoch.specs.world.Reach.{Moment, marks_of, WasIn, Visible, IsCareful, HasMoments}
 use Rattle.congee.specs.declared.protocol.machine.Machine.{Machine}
 use Rattle.congee.specs.declared.protocol.phase.Kind.{Kind}
 use Rattle.congee.specs.declared.protocol.phase.Kind.TheVariants.{Get}

@@ -1,7 +1,7 @@
 -- A value in its cell that becomes another one.
 use Rattle.std.specs.Prelude.{◌≡◌, ◌≢◌, ℕ, ◌+◌, ◌<◌, true, false, List, length, None, Some}
 use Rattle.crossbeam_epoch.specs.declared.names.Name.{Name}
-use Rattle.crossbeam_epoch.specs.World.Store.{Store, Sets, IsNext, cell_at, value_at, was_given, is_usable, placed}
+use Rattle.crossbeam_epoch.specs.world.Store.{Store, Sets, IsNext, cell_at, value_at, was_given, is_usable, placed}
 use Rattle.congee.specs.declared.forms.base_node.NodeType.{NodeType}
 use Rattle.congee.specs.declared.forms.child.Child.{Child}
 use Rattle.congee.specs.declared.forms.child.Child.TheVariants.{Blank}

@@ -2,7 +2,7 @@
 use Rattle.std.specs.Prelude.{◌≡◌, ℕ, Bool, true, false, List, Option, None, Some}
 use Rattle.std.specs.List.{Contains}
 use Rattle.crossbeam_epoch.specs.declared.names.Name.{Name}
-use Rattle.crossbeam_epoch.specs.World.Store.{Store, value_at, was_given}
+use Rattle.crossbeam_epoch.specs.world.Store.{Store, value_at, was_given}
 use Rattle.congee.specs.Heap.{Node, Nothing, Below, Stands}
 use Rattle.joint.specs.Names.{number, named}
 

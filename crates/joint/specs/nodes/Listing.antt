@@ -2,7 +2,7 @@
 use Rattle.std.specs.Prelude.{◌≢◌, ◌↔◌, ℕ, suc, ◌-◌, ◌&&◌, not, Bool, List, [], ◌∷◌}
 use Rattle.std.specs.List.{AllPairs, Contains, filter}
 use Rattle.crossbeam_epoch.specs.declared.world.cells.Cell.{Cell}
-use Rattle.crossbeam_epoch.specs.World.Store.{value_at}
+use Rattle.crossbeam_epoch.specs.world.Store.{value_at}
 use Rattle.congee.specs.Heap.{Node}
 use Rattle.congee.specs.protocol.Handing.{is_handed_over}
 use Rattle.joint.specs.nodes.Nodes.{Nodes, nodes, of_value, size}

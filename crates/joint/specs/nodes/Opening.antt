@@ -3,11 +3,11 @@ use Rattle.std.specs.Prelude.{◌≡◌, ℕ, ◌+◌, ◌^◌, ◌<◌, ◌≤�
 use Rattle.crossbeam_epoch.specs.declared.names.Name.{Name}
 use Rattle.crossbeam_epoch.specs.declared.names.Ptr.{Ptr}
 use Rattle.crossbeam_epoch.specs.declared.limits.Limits.{Limits as EpochLimits}
-use Rattle.crossbeam_epoch.specs.World.Machine.{State, opened, with_store, with_roots}
-use Rattle.crossbeam_epoch.specs.World.Store.{opened_store}
+use Rattle.crossbeam_epoch.specs.world.Machine.{State, opened, with_store, with_roots}
+use Rattle.crossbeam_epoch.specs.world.Store.{opened_store}
 use Rattle.congee.specs.declared.forms.base_node.NodeType.TheVariants.{N256}
-use Rattle.crossbeam_epoch.specs.World.Progress.{IsResting}
-use Rattle.crossbeam_epoch.specs.World.Reach.{Quiet, moment, HasMoments}
+use Rattle.crossbeam_epoch.specs.world.Progress.{IsResting}
+use Rattle.crossbeam_epoch.specs.world.Reach.{Quiet, moment, HasMoments}
 use Rattle.congee.specs.Heap.{Node}
 use Rattle.congee.specs.protocol.Bounds.{Within}
 use Rattle.congee.specs.protocol.Opening.{FreshRoot}

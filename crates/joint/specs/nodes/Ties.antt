@@ -3,8 +3,8 @@ use Rattle.std.specs.Prelude.{◌≡◌, ℕ, true, List, [], ◌∷◌, Some, i
 use Rattle.std.specs.List.{Contains}
 use Rattle.crossbeam_epoch.specs.declared.names.Name.{Name}
 use Rattle.crossbeam_epoch.specs.declared.names.Ptr.{Ptr}
-use Rattle.crossbeam_epoch.specs.World.Store.{Store, value_at, was_given}
-use Rattle.crossbeam_epoch.specs.World.Reach.{links_of}
+use Rattle.crossbeam_epoch.specs.world.Store.{Store, value_at, was_given}
+use Rattle.crossbeam_epoch.specs.world.Reach.{links_of}
 use Rattle.congee.specs.Heap.{Node, Below, Stands}
 use Rattle.joint.specs.Names.{number}
 

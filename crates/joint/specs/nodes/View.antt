@@ -1,7 +1,7 @@
 -- A node as the protocol sees it, read off its slot.
 use Rattle.std.specs.Prelude.{ℕ, ◌==◌, ◌&&◌, not, Bool, true, false, List, [], Option, None, Some, Box}
 use Rattle.std.specs.FinMap as map
-use Rattle.crossbeam_epoch.specs.World.Store.{Store}
+use Rattle.crossbeam_epoch.specs.world.Store.{Store}
 use Rattle.congee.specs.declared.forms.child.Child.{Child}
 use Rattle.congee.specs.declared.forms.base_node.Node.{Node as Form}
 use Rattle.congee.specs.forms.Forms.{children_of, prefix_of, form_of, capacity_of}

@@ -7,7 +7,7 @@ use Rattle.std.specs.declared.alloc.Global.{Global}
 use Rattle.std.specs.declared.sync.Arc.{Arc}
 use Rattle.judge.specs.declared.journal.Reply.TheVariants.{Get, Insert, Remove, ComputePresent, ComputeInsert, Exchange}
 use Rattle.judge.specs.Answer.{Pairs}
-use Rattle.crossbeam_epoch.specs.World.Ending.{registered_in}
+use Rattle.crossbeam_epoch.specs.world.Ending.{registered_in}
 use Rattle.congee.specs.declared.owned.stats.NodeStats.{NodeStats}
 use Rattle.congee.specs.owned.Stats.{capped}
 use Rattle.joint.specs.declared.nodes.account.Account.{Account}

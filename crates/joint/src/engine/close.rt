@@ -1,7 +1,7 @@
 //! The end of the calls: nobody is registered any more, and the nodes are let go.
 
 ghost use Rattle.std.specs.Prelude.{◌≡◌};
-ghost use Rattle.crossbeam_epoch.specs.World.Ending.{registered_in};
+ghost use Rattle.crossbeam_epoch.specs.world.Ending.{registered_in};
 ghost use Rattle.joint.specs.engine.Closing.{IsClosed};
 ghost use Rattle.joint.specs.engine.Intact.{IsIntact};
 ghost use Rattle.joint.specs.engine.State.{state_of, EngineIntact};

@@ -16,7 +16,7 @@ ghost use Rattle.joint.specs.declared.engine.step.Way.TheVariants as Way;
 ghost use Rattle.joint.specs.declared.steps.Target.TheVariants as Target;
 ghost use Rattle.joint.specs.declared.steps.Outcome.TheVariants as Outcome;
 ghost use Rattle.joint.specs.declared.steps.Kind.TheVariants as Kind;
-ghost use Rattle.crossbeam_epoch.specs.World.Machine.{place};
+ghost use Rattle.crossbeam_epoch.specs.world.Machine.{place};
 ghost use Rattle.joint.specs.engine.State.{state_of, EngineIntact, EngineCounted};
 
 use crate::engine::census::{Change, effect};

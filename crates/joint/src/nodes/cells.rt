@@ -1,8 +1,8 @@
 //! Nodes in their cells: one is taken out to be changed and put back, comes into a usable cell, or goes for good.
 
 ghost use Rattle.std.specs.Prelude.{◌≡◌, ◌≢◌, ◌+◌, ◌≤◌, ℕ, Some, is_some, true, length, IfOk, IfErr, OnOk, OnErr};
-ghost use Rattle.crossbeam_epoch.specs.World.Machine.{with_store};
-ghost use Rattle.crossbeam_epoch.specs.World.Store.{value_at, replaced, is_usable};
+ghost use Rattle.crossbeam_epoch.specs.world.Machine.{with_store};
+ghost use Rattle.crossbeam_epoch.specs.world.Store.{value_at, replaced, is_usable};
 ghost use Rattle.crossbeam_epoch.specs.declared.names.Name.{Name};
 ghost use Rattle.congee.specs.declared.forms.prefix.TheConstants.{MAX_PREFIX_LEN};
 ghost use Rattle.congee.specs.protocol.Events.{TakesOver};

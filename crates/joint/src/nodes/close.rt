@@ -3,7 +3,7 @@
 ghost use Rattle.std.specs.Prelude.{◌≡◌};
 ghost use Rattle.std.specs.FinMap.{entries};
 ghost use Rattle.judge.specs.Answer.{Pairs};
-ghost use Rattle.crossbeam_epoch.specs.World.Ending.{registered_in};
+ghost use Rattle.crossbeam_epoch.specs.world.Ending.{registered_in};
 ghost use Rattle.congee.specs.Keys.{IsMapOf};
 ghost use Rattle.joint.specs.nodes.Draining.{TakesBelow, Drained};
 ghost use Rattle.joint.specs.nodes.Nodes.{nodes, frame};

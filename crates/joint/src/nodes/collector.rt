@@ -4,11 +4,11 @@ ghost use Rattle.std.specs.Prelude.{◌≡◌, ◌<◌, ℕ, List, ◌∷◌, []
 ghost use Rattle.std.specs.Result.{result_ok};
 ghost use Rattle.crossbeam_epoch.specs.Limits.{bag_places};
 ghost use Rattle.crossbeam_epoch.specs.declared.bag.Work.{Work};
-ghost use Rattle.crossbeam_epoch.specs.World.Machine.{place, registered, after_deferral};
-ghost use Rattle.crossbeam_epoch.specs.World.Progress.{Moves};
-ghost use Rattle.crossbeam_epoch.specs.World.Reach.{Moment, Quiet, Marked, moment, step_act, HasMoments};
-ghost use Rattle.crossbeam_epoch.specs.World.History.{Deferred};
-ghost use Rattle.crossbeam_epoch.specs.World.Steps.{IsReport, after, destroy_fault};
+ghost use Rattle.crossbeam_epoch.specs.world.Machine.{place, registered, after_deferral};
+ghost use Rattle.crossbeam_epoch.specs.world.Progress.{Moves};
+ghost use Rattle.crossbeam_epoch.specs.world.Reach.{Moment, Quiet, Marked, moment, step_act, HasMoments};
+ghost use Rattle.crossbeam_epoch.specs.world.History.{Deferred};
+ghost use Rattle.crossbeam_epoch.specs.world.Steps.{IsReport, after, destroy_fault};
 ghost use Rattle.joint.specs.nodes.Nodes.{IsCharged, IsBeside, with_collector};
 ghost use Rattle.joint.specs.nodes.Slots.{slot_names};
 

@@ -2,7 +2,7 @@
 //! destroyed once no guard is out that was out then.
 
 ghost use Rattle.std.specs.Prelude.{◌≡◌, ◌-◌, true, MatchResult};
-ghost use Rattle.crossbeam_epoch.specs.Face.Handle.{owns};
+ghost use Rattle.crossbeam_epoch.specs.face.Handle.{owns};
 
 use crossbeam_epoch::{
     Atomic, Collector, Fault, Guard, Link, LocalHandle, Owned, Pointable, Shared, Task,

@@ -9,11 +9,11 @@ use Rattle.crossbeam_epoch.specs.declared.face.guard.Row.{Row}
 use Rattle.crossbeam_epoch.specs.declared.face.queue.Queued.{Queued}
 use Rattle.crossbeam_epoch.specs.declared.face.seats.View.{View}
 use Rattle.crossbeam_epoch.specs.declared.bag.Deferral.{Deferral}
-use Rattle.crossbeam_epoch.specs.Face.Handle.{owns, with_room, SealsUnder}
-use Rattle.crossbeam_epoch.specs.Face.Participant.{IsPinned}
+use Rattle.crossbeam_epoch.specs.face.Handle.{owns, with_room, SealsUnder}
+use Rattle.crossbeam_epoch.specs.face.Participant.{IsPinned}
 use Rattle.crossbeam_epoch.specs.Limits.{bag_places}
-use Rattle.crossbeam_epoch.specs.Face.Pins.{with_seen, IsRead}
-use Rattle.crossbeam_epoch.specs.Face.Tokens.{with_guards, pinned_view}
+use Rattle.crossbeam_epoch.specs.face.Pins.{with_seen, IsRead}
+use Rattle.crossbeam_epoch.specs.face.Tokens.{with_guards, pinned_view}
 
 out_is : (n : ℕ) → 0 < n → nat_lt 0 n ≡ true
 out_is n out = lt-ltb 0 n out

@@ -7,7 +7,7 @@ use lib.ListN.{get_elem?}
 use Rattle.atomic_table.specs.Table.{State, Joins}
 use Rattle.atomic_table.proofs.Lists.{at_set, set_again}
 use Rattle.crossbeam_epoch.specs.declared.face.seats.View.{View}
-use Rattle.crossbeam_epoch.specs.Face.Pins.{epoch_of, newcomer, At, IsKept, IsRead, with_seen, noted, with_note}
+use Rattle.crossbeam_epoch.specs.face.Pins.{epoch_of, newcomer, At, IsKept, IsRead, with_seen, noted, with_note}
 use Rattle.crossbeam_epoch.proofs.lemmas.face.Pins.{sees, spends}
 
 module _ {S : Type 0} (places last : ℕ) where

@@ -10,7 +10,7 @@ use prog.Atomic.{either}
 use Rattle.atomic_table.specs.Table.{State, Me, step, keeps, stepped, Allows, Enters, Splits}
 use Rattle.atomic_table.proofs.Lists.{at_set, at_snoc, set_here, set_else, set_again, at_longer}
 use Rattle.crossbeam_epoch.specs.declared.face.seats.View.{View}
-use Rattle.crossbeam_epoch.specs.Face.Pins.{word_of, epoch_of, number_of, newcomer, ViewHolds, At, IsKept, with_seen, noted, seat_arrived, seat_claimed, seat_counted, seat_looked, seat_published, seat_confirmed, seat_left, seat_released, Passes, seat_inspected, seat_advanced, PinsHoldEpoch}
+use Rattle.crossbeam_epoch.specs.face.Pins.{word_of, epoch_of, number_of, newcomer, ViewHolds, At, IsKept, with_seen, noted, seat_arrived, seat_claimed, seat_counted, seat_looked, seat_published, seat_confirmed, seat_left, seat_released, Passes, seat_inspected, seat_advanced, PinsHoldEpoch}
 
 below : {A : Type 0} (l : List A) (i : ℕ) (a : A) → get_elem? l i ≡ some a → i < length l
 below [] i a e = absurd (some-ne-none a (sym e))

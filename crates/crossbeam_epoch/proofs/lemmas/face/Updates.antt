@@ -3,7 +3,7 @@ use Rattle.std.proofs.Common.{◌≡◌, ℕ, Bool, true, Option, Some, None, sy
 use Rattle.std.specs.Prelude.{IfSome}
 use Rattle.crossbeam_epoch.specs.declared.face.shared.Shared.{Shared}
 use Rattle.crossbeam_epoch.specs.declared.face.link.Link.{Link}
-use Rattle.crossbeam_epoch.specs.Face.Exchange.{GaveNext, GaveNone, Updates}
+use Rattle.crossbeam_epoch.specs.face.Exchange.{GaveNext, GaveNone, Updates}
 
 -- pointers with one site and tag are one
 pub one_pointer : {T : Type 0} (a b : Shared T) → a.link ≡ b.link → a ≡ b

@@ -13,10 +13,10 @@ use Rattle.crossbeam_epoch.specs.declared.world.report.Event.TheVariants.{Begin,
 use Rattle.crossbeam_epoch.specs.declared.world.report.Outcome.{Outcome}
 use Rattle.crossbeam_epoch.specs.declared.world.report.Outcome.TheVariants.{Running, Done, Refused}
 use Rattle.crossbeam_epoch.specs.declared.world.report.Report.{Report}
-use Rattle.crossbeam_epoch.specs.World.Machine.{State, place}
-use Rattle.crossbeam_epoch.specs.World.Steps.{begin_marks, phase_marks, moved_marks, unless_refused}
-use Rattle.crossbeam_epoch.specs.World.History.{Mark, Pinned, Repinned, Unpinned, Deferred, Called, WasDeferred, AreCalledLater}
-use Rattle.crossbeam_epoch.specs.World.Reach.{Act, Quiet, Marked, GivenBack, with_act, changes_pin, IsBy, IsDestruction, newest_act, step_act}
+use Rattle.crossbeam_epoch.specs.world.Machine.{State, place}
+use Rattle.crossbeam_epoch.specs.world.Steps.{begin_marks, phase_marks, moved_marks, unless_refused}
+use Rattle.crossbeam_epoch.specs.world.History.{Mark, Pinned, Repinned, Unpinned, Deferred, Called, WasDeferred, AreCalledLater}
+use Rattle.crossbeam_epoch.specs.world.Reach.{Act, Quiet, Marked, GivenBack, with_act, changes_pin, IsBy, IsDestruction, newest_act, step_act}
 
 by_unpin : (who : ℕ) (b : Bool) → IsBy who (newest_act (if b then Unpinned who ∷ [] else []))
 by_unpin who true = refl

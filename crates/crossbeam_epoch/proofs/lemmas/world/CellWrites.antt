@@ -6,7 +6,7 @@ use Rattle.std.proofs.lemmas.Bool.Decides.{nat_tests}
 use Rattle.std.proofs.lemmas.List.{get_or_past}
 use Rattle.crossbeam_epoch.specs.declared.names.Name.{Name}
 use Rattle.crossbeam_epoch.specs.declared.world.cells.Cell.{Cell}
-use Rattle.crossbeam_epoch.specs.World.Store.{Store, fresh, cell_at, value_in, value_at, was_given, IsNext, emptied, replaced, placed, Sets}
+use Rattle.crossbeam_epoch.specs.world.Store.{Store, fresh, cell_at, value_in, value_at, was_given, IsNext, emptied, replaced, placed, Sets}
 use Rattle.crossbeam_epoch.proofs.lemmas.world.Givens.{cell_itself}
 use Rattle.crossbeam_epoch.proofs.lemmas.world.Told.{turn_of, usable_empty, cell_with}
 

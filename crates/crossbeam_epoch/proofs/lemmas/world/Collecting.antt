@@ -11,9 +11,9 @@ use Rattle.crossbeam_epoch.specs.declared.bag.Sealed.{Sealed}
 use Rattle.crossbeam_epoch.specs.declared.world.participant.Participant.{Participant}
 use Rattle.crossbeam_epoch.specs.declared.world.participant.Phase.{Phase}
 use Rattle.crossbeam_epoch.specs.declared.world.participant.Phase.TheVariants.{Idle, Look, Publish, RepinLook, RepinPublish, Seal, Queue, ReleaseSeal, ReleaseQueue, Secure, SecureSeal, SecureQueue, Load, Inspect, Advance, Take, Call}
-use Rattle.crossbeam_epoch.specs.World.Machine.{State, place, blank, in_phase, ends_advance, inspection, is_due, no_bag, taken, after_call, called_one}
-use Rattle.crossbeam_epoch.specs.World.Steps.{gone}
-use Rattle.crossbeam_epoch.specs.World.Rounds.{IsNotDue, TakesOff}
+use Rattle.crossbeam_epoch.specs.world.Machine.{State, place, blank, in_phase, ends_advance, inspection, is_due, no_bag, taken, after_call, called_one}
+use Rattle.crossbeam_epoch.specs.world.Steps.{gone}
+use Rattle.crossbeam_epoch.specs.world.Rounds.{IsNotDue, TakesOff}
 use Rattle.crossbeam_epoch.proofs.lemmas.world.Moves.{none_in}
 
 -- the epoch is the one before the round, or the one after it

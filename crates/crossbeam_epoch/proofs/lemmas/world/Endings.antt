@@ -12,13 +12,13 @@ use Rattle.crossbeam_epoch.specs.declared.bag.Work.TheVariants.{Remove}
 use Rattle.crossbeam_epoch.specs.declared.names.Name.{Name}
 use Rattle.crossbeam_epoch.specs.declared.world.participant.Participant.{Participant}
 use Rattle.crossbeam_epoch.specs.declared.bag.Sealed.{Sealed}
-use Rattle.crossbeam_epoch.specs.World.Ending.{registered_below, registered_in, jobs_of, after_jobs, history_of_calls, IsEnded}
-use Rattle.crossbeam_epoch.specs.World.Fits.{Fits, IsTable, at_place, in_bag, has_ticket, one}
-use Rattle.crossbeam_epoch.specs.World.History.{Mark, Called, began, blocks, times_called, IsGraceful, AreCalledLater, WasDeferred}
-use Rattle.crossbeam_epoch.specs.World.Machine.{State, place, blank, destroys, after_work}
-use Rattle.crossbeam_epoch.specs.World.Reach.{Moment, marks_of, HasMoments}
-use Rattle.crossbeam_epoch.specs.World.Store.{Store}
-use Rattle.crossbeam_epoch.specs.World.Tickets.{TicketCount}
+use Rattle.crossbeam_epoch.specs.world.Ending.{registered_below, registered_in, jobs_of, after_jobs, history_of_calls, IsEnded}
+use Rattle.crossbeam_epoch.specs.world.Fits.{Fits, IsTable, at_place, in_bag, has_ticket, one}
+use Rattle.crossbeam_epoch.specs.world.History.{Mark, Called, began, blocks, times_called, IsGraceful, AreCalledLater, WasDeferred}
+use Rattle.crossbeam_epoch.specs.world.Machine.{State, place, blank, destroys, after_work}
+use Rattle.crossbeam_epoch.specs.world.Reach.{Moment, marks_of, HasMoments}
+use Rattle.crossbeam_epoch.specs.world.Store.{Store}
+use Rattle.crossbeam_epoch.specs.world.Tickets.{TicketCount}
 use Rattle.crossbeam_epoch.proofs.lemmas.world.Jobs.{began_blocking, destroys_named}
 use Rattle.crossbeam_epoch.proofs.lemmas.world.Moves.{none_in, contains_tail, unpinned_now}
 

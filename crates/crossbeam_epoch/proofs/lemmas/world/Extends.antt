@@ -3,8 +3,8 @@ use Rattle.std.proofs.Common.{ℕ, List, Option, length}
 use Rattle.crossbeam_epoch.specs.declared.names.Name.{Name}
 use Rattle.crossbeam_epoch.specs.declared.world.report.Op.{Op}
 use Rattle.crossbeam_epoch.specs.declared.world.report.Report.{Report}
-use Rattle.crossbeam_epoch.specs.World.Calls.{call_steps, IsCall, Extends}
-use Rattle.crossbeam_epoch.specs.World.Machine.{State}
+use Rattle.crossbeam_epoch.specs.world.Calls.{call_steps, IsCall, Extends}
+use Rattle.crossbeam_epoch.specs.world.Machine.{State}
 use Rattle.crossbeam_epoch.proofs.lemmas.world.Logs.{shows_run}
 use Rattle.crossbeam_epoch.proofs.lemmas.world.Runs.{fits_run}
 use Rattle.crossbeam_epoch.proofs.lemmas.world.Told.{tells_run}

@@ -6,8 +6,8 @@ use Rattle.std.proofs.lemmas.Bool.Decides.{nat_tests}
 use Rattle.std.proofs.lemmas.List.{length_push, get_or_push, get_or_append_left}
 use Rattle.std.proofs.lemmas.List.Sums.{sum_by-cons, sum_by-set, sum_by_push}
 use Rattle.crossbeam_epoch.specs.declared.world.cells.Cell.{Cell}
-use Rattle.crossbeam_epoch.specs.World.Store.{Store, fresh, is_usable, IsNext, placed}
-use Rattle.crossbeam_epoch.specs.World.Free.{FitsFree, is_reusable, is_reusable_at, not_reusable, times}
+use Rattle.crossbeam_epoch.specs.world.Store.{Store, fresh, is_usable, IsNext, placed}
+use Rattle.crossbeam_epoch.specs.world.Free.{FitsFree, is_reusable, is_reusable_at, not_reusable, times}
 
 times_push : (i : ℕ) (free : List ℕ) (at : ℕ) → times i (free ++ at ∷ []) ≡ times i free + (if at == i then 1 else 0)
 times_push i free at = sum_by_push (λ x. if x == i then 1 else 0) free at

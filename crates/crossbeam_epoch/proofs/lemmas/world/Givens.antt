@@ -15,9 +15,9 @@ use Rattle.crossbeam_epoch.specs.declared.world.report.Event.{Event}
 use Rattle.crossbeam_epoch.specs.declared.world.report.Event.TheVariants.{Begin, Go}
 use Rattle.crossbeam_epoch.specs.declared.world.report.Outcome.{Outcome}
 use Rattle.crossbeam_epoch.specs.declared.world.report.Outcome.TheVariants.{Running, Done, Refused}
-use Rattle.crossbeam_epoch.specs.World.Machine.{State, place, in_phase, is_due, taken, called_one, no_entry, after_work}
-use Rattle.crossbeam_epoch.specs.World.Steps.{after, gone, moved, needs_memory}
-use Rattle.crossbeam_epoch.specs.World.Store.{Store, fresh, cell_at, value_at, was_given, with_cell, emptied, replaced, placed, IsNext}
+use Rattle.crossbeam_epoch.specs.world.Machine.{State, place, in_phase, is_due, taken, called_one, no_entry, after_work}
+use Rattle.crossbeam_epoch.specs.world.Steps.{after, gone, moved, needs_memory}
+use Rattle.crossbeam_epoch.specs.world.Store.{Store, fresh, cell_at, value_at, was_given, with_cell, emptied, replaced, placed, IsNext}
 
 module _ {T : Type 0} where
   -- names stay given

@@ -14,8 +14,8 @@ use Rattle.crossbeam_epoch.specs.declared.world.report.Op.TheVariants as O
 use Rattle.crossbeam_epoch.specs.declared.world.report.Outcome.{Outcome}
 use Rattle.crossbeam_epoch.specs.declared.world.report.Outcome.TheVariants.{Running, Done, Refused}
 use Rattle.crossbeam_epoch.specs.declared.world.report.Report.{Report}
-use Rattle.crossbeam_epoch.specs.World.Machine.{State, place, blank, with_place, in_phase}
-use Rattle.crossbeam_epoch.specs.World.Steps.{begin_fault, begun_at, begun, busy_fault, outcome_at, outcome_or, place_or, event_fault, fault, gone, moved, needs_memory, after, called_by, called_in, IsOutcome, IsReport}
+use Rattle.crossbeam_epoch.specs.world.Machine.{State, place, blank, with_place, in_phase}
+use Rattle.crossbeam_epoch.specs.world.Steps.{begin_fault, begun_at, begun, busy_fault, outcome_at, outcome_or, place_or, event_fault, fault, gone, moved, needs_memory, after, called_by, called_in, IsOutcome, IsReport}
 use Rattle.crossbeam_epoch.proofs.lemmas.world.Runs.{begin_after}
 
 -- a phase ends a call or goes on

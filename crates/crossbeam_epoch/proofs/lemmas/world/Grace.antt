@@ -9,10 +9,10 @@ use Rattle.crossbeam_epoch.specs.declared.world.participant.Participant.{Partici
 use Rattle.crossbeam_epoch.specs.declared.bag.Sealed.{Sealed}
 use Rattle.crossbeam_epoch.specs.declared.world.participant.Phase.{Phase}
 use Rattle.crossbeam_epoch.specs.declared.world.participant.Phase.TheVariants.{Idle, Look, Publish, RepinLook, RepinPublish, Seal, Queue, ReleaseSeal, ReleaseQueue, Secure, SecureSeal, SecureQueue, Load, Inspect, Advance, Take, Call}
-use Rattle.crossbeam_epoch.specs.World.History.{Mark, began, times_called, deferrals, IsGraceful, AreCalledLater}
-use Rattle.crossbeam_epoch.specs.World.Machine.{State, place, blank}
-use Rattle.crossbeam_epoch.specs.World.Store.{Store}
-use Rattle.crossbeam_epoch.specs.World.Fits.{Fits, FitsAt, InPhase, IsSealed, IsCollecting, Bounds, AreAccepted, Once, at_place, in_bag, has_ticket, one}
+use Rattle.crossbeam_epoch.specs.world.History.{Mark, began, times_called, deferrals, IsGraceful, AreCalledLater}
+use Rattle.crossbeam_epoch.specs.world.Machine.{State, place, blank}
+use Rattle.crossbeam_epoch.specs.world.Store.{Store}
+use Rattle.crossbeam_epoch.specs.world.Fits.{Fits, FitsAt, InPhase, IsSealed, IsCollecting, Bounds, AreAccepted, Once, at_place, in_bag, has_ticket, one}
 use Rattle.crossbeam_epoch.proofs.lemmas.world.Marks.{Goes}
 
 -- word and stretch keep their bounds at a later epoch, by one past the stretch's beginning at most

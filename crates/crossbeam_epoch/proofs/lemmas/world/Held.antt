@@ -11,11 +11,11 @@ use Rattle.crossbeam_epoch.specs.declared.world.participant.Phase.{Phase}
 use Rattle.crossbeam_epoch.specs.declared.world.participant.Phase.TheVariants.{Idle, Take, Call}
 use Rattle.crossbeam_epoch.specs.declared.bag.Deferral.{Deferral}
 use Rattle.crossbeam_epoch.specs.declared.names.Name.{Name}
-use Rattle.crossbeam_epoch.specs.World.Store.{Store}
+use Rattle.crossbeam_epoch.specs.world.Store.{Store}
 use Rattle.crossbeam_epoch.specs.declared.bag.Sealed.{Sealed}
-use Rattle.crossbeam_epoch.specs.World.Machine.{State, is_due, took, taken, no_bag, no_entry, called, called_one, after_call, after_work, destroys, place, blank, with_place, in_phase, advanced, deferred, deferred_anew, after_deferral}
-use Rattle.crossbeam_epoch.specs.World.Steps.{called_by, called_entry, quiet_fault, or_count, defer_fault}
-use Rattle.crossbeam_epoch.specs.World.Tickets.{TicketCount}
+use Rattle.crossbeam_epoch.specs.world.Machine.{State, is_due, took, taken, no_bag, no_entry, called, called_one, after_call, after_work, destroys, place, blank, with_place, in_phase, advanced, deferred, deferred_anew, after_deferral}
+use Rattle.crossbeam_epoch.specs.world.Steps.{called_by, called_entry, quiet_fault, or_count, defer_fault}
+use Rattle.crossbeam_epoch.specs.world.Tickets.{TicketCount}
 use Rattle.crossbeam_epoch.specs.Chain.{room_behind, room_left}
 
 is_below : (a b : ℕ) → a < b → nat_lt a b ≡ true

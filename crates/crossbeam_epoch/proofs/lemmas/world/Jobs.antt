@@ -11,12 +11,12 @@ use Rattle.crossbeam_epoch.specs.declared.bag.Work.TheVariants.{Blank, Remove, R
 use Rattle.crossbeam_epoch.specs.declared.names.Name.{Name}
 use Rattle.crossbeam_epoch.specs.declared.bag.Sealed.{Sealed}
 use Rattle.crossbeam_epoch.specs.declared.world.participant.Phase.TheVariants.{Idle, Take, Call}
-use Rattle.crossbeam_epoch.specs.World.History.{Mark, Pinned, Repinned, Unpinned, Deferred, Called, began, blocks, deferrals}
+use Rattle.crossbeam_epoch.specs.world.History.{Mark, Pinned, Repinned, Unpinned, Deferred, Called, began, blocks, deferrals}
 use Rattle.crossbeam_epoch.specs.Chain.{room_behind}
-use Rattle.crossbeam_epoch.specs.World.Machine.{State, place, blank, in_phase, after_call, called, called_one, no_entry, destroys, after_work, name_of, deferred, deferred_anew, after_deferral}
-use Rattle.crossbeam_epoch.specs.World.Store.{Store, value_at}
-use Rattle.crossbeam_epoch.specs.World.Steps.{called_by}
-use Rattle.crossbeam_epoch.specs.World.Fits.{Fits, InPhase, IsSealed, AreAccepted, Began, HandFits, at_place, in_bag, has_ticket, one}
+use Rattle.crossbeam_epoch.specs.world.Machine.{State, place, blank, in_phase, after_call, called, called_one, no_entry, destroys, after_work, name_of, deferred, deferred_anew, after_deferral}
+use Rattle.crossbeam_epoch.specs.world.Store.{Store, value_at}
+use Rattle.crossbeam_epoch.specs.world.Steps.{called_by}
+use Rattle.crossbeam_epoch.specs.world.Fits.{Fits, InPhase, IsSealed, AreAccepted, Began, HandFits, at_place, in_bag, has_ticket, one}
 use Rattle.crossbeam_epoch.proofs.lemmas.world.Marks.{goes_deferred, goes_called}
 use Rattle.crossbeam_epoch.proofs.lemmas.world.Grace.{accepted_goes, sealed_goes, fits_put, fits_room}
 use Rattle.crossbeam_epoch.proofs.lemmas.world.Moves.{top_now, top_goes, queue_goes, queue_push, sealed_now, fits_idle, contains_tail, none_in_hand, none_accepted}

@@ -22,13 +22,13 @@ use Rattle.crossbeam_epoch.specs.declared.world.report.Step.{Step}
 use Rattle.crossbeam_epoch.specs.declared.world.report.Outcome.{Outcome}
 use Rattle.crossbeam_epoch.specs.declared.world.report.Outcome.TheVariants.{Running, Done, Refused}
 use Rattle.crossbeam_epoch.specs.declared.world.report.Report.{Report}
-use Rattle.crossbeam_epoch.specs.World.History.{Mark, Pinned, Repinned, Unpinned, Deferred, began, times_called, deferrals, IsGraceful, AreCalledLater}
-use Rattle.crossbeam_epoch.specs.World.Fits.{Fits, Bounds, times_held}
-use Rattle.crossbeam_epoch.specs.World.Reach.{Moment, HasMoments, IsCareful, Visible, marks_of, moment, moments_after, step_act}
-use Rattle.crossbeam_epoch.specs.World.Store.{Store, value_at}
-use Rattle.crossbeam_epoch.specs.World.Log.{LogLine, Stepped, Accepted, log_after, Flight, one_more, flight_after, flight, is_pin, is_repin, pins_next, repins_next, guards_after, guards, untold, publication, event_marks, history_of, undated, IsPastBy, IsPast, IsFlight, AgreesAt, Shows}
-use Rattle.crossbeam_epoch.specs.World.Machine.{State, place, blank, in_phase, published, is_at, relooked, repinned, secured, has_free, inspection, ends_advance, no_bag, taken, after_call, called_one, opened, registered, with_store, with_roots, deferred, deferred_anew, after_deferral, name_of}
-use Rattle.crossbeam_epoch.specs.World.Steps.{outcome_at, begin_fault, event_fault, fault, begun_at, begun, gone, moved, needs_memory, after, IsOutcome, IsReport, begin_marks, phase_marks, moved_marks, unless_refused, marks, state_after, history_after, AreReports}
+use Rattle.crossbeam_epoch.specs.world.History.{Mark, Pinned, Repinned, Unpinned, Deferred, began, times_called, deferrals, IsGraceful, AreCalledLater}
+use Rattle.crossbeam_epoch.specs.world.Fits.{Fits, Bounds, times_held}
+use Rattle.crossbeam_epoch.specs.world.Reach.{Moment, HasMoments, IsCareful, Visible, marks_of, moment, moments_after, step_act}
+use Rattle.crossbeam_epoch.specs.world.Store.{Store, value_at}
+use Rattle.crossbeam_epoch.specs.world.Log.{LogLine, Stepped, Accepted, log_after, Flight, one_more, flight_after, flight, is_pin, is_repin, pins_next, repins_next, guards_after, guards, untold, publication, event_marks, history_of, undated, IsPastBy, IsPast, IsFlight, AgreesAt, Shows}
+use Rattle.crossbeam_epoch.specs.world.Machine.{State, place, blank, in_phase, published, is_at, relooked, repinned, secured, has_free, inspection, ends_advance, no_bag, taken, after_call, called_one, opened, registered, with_store, with_roots, deferred, deferred_anew, after_deferral, name_of}
+use Rattle.crossbeam_epoch.specs.world.Steps.{outcome_at, begin_fault, event_fault, fault, begun_at, begun, gone, moved, needs_memory, after, IsOutcome, IsReport, begin_marks, phase_marks, moved_marks, unless_refused, marks, state_after, history_after, AreReports}
 use Rattle.crossbeam_epoch.proofs.lemmas.world.Reaches.{seen_stands}
 use Rattle.crossbeam_epoch.proofs.lemmas.world.Told.{marks_act}
 use Rattle.crossbeam_epoch.proofs.lemmas.world.Undated.{undated_began, undated_graceful, undated_calls, undated_deferrals, undated_later}

@@ -3,7 +3,7 @@ use Rattle.std.proofs.Common.{◌≡◌, ℕ, ◌<◌, ◌≤◌, ◌≢◌, Boo
 use Rattle.std.specs.Prelude.{if◌then◌else◌, is_some}
 use Rattle.std.proofs.lemmas.Bool.{ne_eqb}
 use Rattle.crossbeam_epoch.specs.declared.names.Name.{Name}
-use Rattle.crossbeam_epoch.specs.World.History.{Mark, Pinned, Repinned, Unpinned, Deferred, Called, began, blocks, WasDeferred}
+use Rattle.crossbeam_epoch.specs.world.History.{Mark, Pinned, Repinned, Unpinned, Deferred, Called, began, blocks, WasDeferred}
 
 -- h' goes on from h, by an act of `who` while the epoch was this and so many jobs were deferred
 pub record Goes (h : List Mark) (epoch next who : ℕ) (h' : List Mark) : Type 0 where

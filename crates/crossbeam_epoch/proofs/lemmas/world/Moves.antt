@@ -12,10 +12,10 @@ use Rattle.crossbeam_epoch.specs.declared.world.participant.Participant.{Partici
 use Rattle.crossbeam_epoch.specs.declared.bag.Sealed.{Sealed}
 use Rattle.crossbeam_epoch.specs.declared.world.participant.Phase.{Phase}
 use Rattle.crossbeam_epoch.specs.declared.world.participant.Phase.TheVariants.{Idle, Look, Publish, RepinLook, RepinPublish, Seal, Queue, ReleaseSeal, ReleaseQueue, Secure, SecureSeal, SecureQueue, Load, Inspect, Advance, Take, Call}
-use Rattle.crossbeam_epoch.specs.World.History.{Mark, Pinned, Repinned, Unpinned, began, times_called, deferrals}
+use Rattle.crossbeam_epoch.specs.world.History.{Mark, Pinned, Repinned, Unpinned, began, times_called, deferrals}
 use Rattle.crossbeam_epoch.specs.Chain.{room_behind, room_left}
-use Rattle.crossbeam_epoch.specs.World.Machine.{State, place, blank, with_place, in_phase, published, is_at, relooked, repinned, secured, has_free, advanced, queued, released, ends_advance, inspected, is_due, no_bag, taken, took}
-use Rattle.crossbeam_epoch.specs.World.Fits.{Fits, FitsAt, InPhase, IsSealed, IsCollecting, AreAccepted, Bounds, Began, Once, HandFits, at_place, in_bag, has_ticket, one}
+use Rattle.crossbeam_epoch.specs.world.Machine.{State, place, blank, with_place, in_phase, published, is_at, relooked, repinned, secured, has_free, advanced, queued, released, ends_advance, inspected, is_due, no_bag, taken, took}
+use Rattle.crossbeam_epoch.specs.world.Fits.{Fits, FitsAt, InPhase, IsSealed, IsCollecting, AreAccepted, Bounds, Began, Once, HandFits, at_place, in_bag, has_ticket, one}
 use Rattle.crossbeam_epoch.proofs.lemmas.world.Marks.{Goes, goes_none, goes_pinned, goes_repinned, goes_unpinned}
 use Rattle.crossbeam_epoch.proofs.lemmas.world.Grace.{bounds_later, bounds_top, accepted_goes, sealed_goes, Carries, fits_put, fits_room}
 

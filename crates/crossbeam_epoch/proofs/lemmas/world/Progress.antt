@@ -25,12 +25,12 @@ use Rattle.crossbeam_epoch.specs.declared.world.report.Event.TheVariants.{Begin,
 use Rattle.crossbeam_epoch.specs.declared.world.report.Outcome.{Outcome}
 use Rattle.crossbeam_epoch.specs.declared.world.report.Outcome.TheVariants.{Running, Done, Refused}
 use Rattle.crossbeam_epoch.specs.declared.world.report.Report.{Report}
-use Rattle.crossbeam_epoch.specs.World.Fits.{HandFits, at_place, in_bag, weight}
+use Rattle.crossbeam_epoch.specs.world.Fits.{HandFits, at_place, in_bag, weight}
 use Rattle.crossbeam_epoch.specs.Chain.{room_behind, room_left}
-use Rattle.crossbeam_epoch.specs.World.Machine.{State, place, blank, with_place, in_phase, published, relooked, repinned, secured, queued, released, inspection, is_due, no_bag, taken, after_call, called_one, no_entry, destroys, after_work, opened, registered, deferred, deferred_anew, after_deferral}
-use Rattle.crossbeam_epoch.specs.World.Steps.{fault, event_fault, begun, gone, moved, needs_memory, after, quiet_fault, or_count, defer_fault, called_entry, called_by, called_in, IsOutcome, IsReport}
-use Rattle.crossbeam_epoch.specs.World.Store.{Store, value_at, emptied}
-use Rattle.crossbeam_epoch.specs.World.Progress.{Orderly, JobsAfter, EmptiesAt, Empties, Moves, KeepsCalls, IsOn, IsResting, collects}
+use Rattle.crossbeam_epoch.specs.world.Machine.{State, place, blank, with_place, in_phase, published, relooked, repinned, secured, queued, released, inspection, is_due, no_bag, taken, after_call, called_one, no_entry, destroys, after_work, opened, registered, deferred, deferred_anew, after_deferral}
+use Rattle.crossbeam_epoch.specs.world.Steps.{fault, event_fault, begun, gone, moved, needs_memory, after, quiet_fault, or_count, defer_fault, called_entry, called_by, called_in, IsOutcome, IsReport}
+use Rattle.crossbeam_epoch.specs.world.Store.{Store, value_at, emptied}
+use Rattle.crossbeam_epoch.specs.world.Progress.{Orderly, JobsAfter, EmptiesAt, Empties, Moves, KeepsCalls, IsOn, IsResting, collects}
 use Rattle.crossbeam_epoch.proofs.lemmas.world.Moves.{none_in, none_in_hand, contains_drop, front_bag}
 use Rattle.crossbeam_epoch.proofs.lemmas.world.Jobs.{first_job, no_items, hand_after}
 use Rattle.crossbeam_epoch.proofs.lemmas.world.Runs.{in_table, known_if_faultless, begin_idle, blank_at, blanks_weigh_none, empty_hand, done_called}

@@ -7,10 +7,10 @@ use Rattle.std.proofs.lemmas.List.Elements.{Contains-get_or}
 use Rattle.std.proofs.lemmas.Option.{get_or_from_slice_get, slice_get_within}
 use Rattle.crossbeam_epoch.specs.declared.names.Name.{Name}
 use Rattle.crossbeam_epoch.specs.declared.names.Ptr.{Ptr}
-use Rattle.crossbeam_epoch.specs.World.History.{Mark, Pinned, Repinned, Unpinned, Deferred, Called, began, blocks, deferrals, IsGraceful, WasDeferred, AreCalledLater}
-use Rattle.crossbeam_epoch.specs.World.Reach.{Act, Quiet, Marked, GivenBack, Moment, with_act, marks_of, InReach, from_cell, from_root, links_of, IsIn, WasIn, WasLive, mark_changes_pin, changes_pin, Visible, LeavesFirst, EntersLive, GivesUnseen, KeepsLinks, mark_destroys, IsDestruction, DestructionsTold, IsNow, IsCareful, HasMoments, InSight}
-use Rattle.crossbeam_epoch.specs.World.Machine.{State, null}
-use Rattle.crossbeam_epoch.specs.World.Store.{value_at}
+use Rattle.crossbeam_epoch.specs.world.History.{Mark, Pinned, Repinned, Unpinned, Deferred, Called, began, blocks, deferrals, IsGraceful, WasDeferred, AreCalledLater}
+use Rattle.crossbeam_epoch.specs.world.Reach.{Act, Quiet, Marked, GivenBack, Moment, with_act, marks_of, InReach, from_cell, from_root, links_of, IsIn, WasIn, WasLive, mark_changes_pin, changes_pin, Visible, LeavesFirst, EntersLive, GivesUnseen, KeepsLinks, mark_destroys, IsDestruction, DestructionsTold, IsNow, IsCareful, HasMoments, InSight}
+use Rattle.crossbeam_epoch.specs.world.Machine.{State, null}
+use Rattle.crossbeam_epoch.specs.world.Store.{value_at}
 
 steady : {A : Type 0} (c : Bool) (a y : A) → c ≡ false → (if c then a else y) ≡ y
 steady true a y e = absurd (cc e)

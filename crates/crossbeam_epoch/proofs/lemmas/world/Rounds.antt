@@ -19,13 +19,13 @@ use Rattle.crossbeam_epoch.specs.declared.world.report.Event.{Event}
 use Rattle.crossbeam_epoch.specs.declared.world.report.Event.TheVariants.{Begin, Go}
 use Rattle.crossbeam_epoch.specs.declared.world.report.Op.TheVariants as O
 use Rattle.crossbeam_epoch.specs.declared.world.report.Report.{Report}
-use Rattle.crossbeam_epoch.specs.World.Fits.{Fits, IsTable, in_bag, job_count, one, weight}
-use Rattle.crossbeam_epoch.specs.World.History.{Mark}
-use Rattle.crossbeam_epoch.specs.World.Machine.{State, place, blank, with_place, in_phase, published, queued}
-use Rattle.crossbeam_epoch.specs.World.Progress.{Orderly, JobsAfter}
-use Rattle.crossbeam_epoch.specs.World.Steps.{event_fault, gone, after, marks, IsReport}
-use Rattle.crossbeam_epoch.specs.World.Sealing.{IsSealing}
-use Rattle.crossbeam_epoch.specs.World.Rounds.{Finishes, IsRound, AreRounds, IsQuiet, IsNotDue, TakesOff, IsSealedBag, IsEmptied}
+use Rattle.crossbeam_epoch.specs.world.Fits.{Fits, IsTable, in_bag, job_count, one, weight}
+use Rattle.crossbeam_epoch.specs.world.History.{Mark}
+use Rattle.crossbeam_epoch.specs.world.Machine.{State, place, blank, with_place, in_phase, published, queued}
+use Rattle.crossbeam_epoch.specs.world.Progress.{Orderly, JobsAfter}
+use Rattle.crossbeam_epoch.specs.world.Steps.{event_fault, gone, after, marks, IsReport}
+use Rattle.crossbeam_epoch.specs.world.Sealing.{IsSealing}
+use Rattle.crossbeam_epoch.specs.world.Rounds.{Finishes, IsRound, AreRounds, IsQuiet, IsNotDue, TakesOff, IsSealedBag, IsEmptied}
 use Rattle.crossbeam_epoch.proofs.lemmas.world.Collecting.{IsNear, next_epoch, IsHeld, CollectAt, IsAlone, collect_goes}
 use Rattle.crossbeam_epoch.proofs.lemmas.world.Endings.{all_one}
 use Rattle.crossbeam_epoch.proofs.lemmas.world.Jobs.{no_items}

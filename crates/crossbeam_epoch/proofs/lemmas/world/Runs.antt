@@ -23,10 +23,10 @@ use Rattle.crossbeam_epoch.specs.declared.fault.Fault.TheVariants as F
 use Rattle.crossbeam_epoch.specs.declared.world.report.Outcome.{Outcome}
 use Rattle.crossbeam_epoch.specs.declared.world.report.Outcome.TheVariants.{Running, Done, Refused}
 use Rattle.crossbeam_epoch.specs.declared.world.report.Report.{Report}
-use Rattle.crossbeam_epoch.specs.World.History.{Mark, Unpinned, Deferred}
-use Rattle.crossbeam_epoch.specs.World.Machine.{State, place, blank, with_place, in_phase, opened, registered, with_store, with_roots, name_of, after_deferral}
-use Rattle.crossbeam_epoch.specs.World.Steps.{quiet_fault, or_count, defer_fault, when, outcome_at, outcome_or, place_or, begin_fault, event_fault, fault, begun_at, begun, gone, moved, needs_memory, after, called_by, called_in, IsOutcome, IsReport, begin_marks, phase_marks, moved_marks, unless_refused, marks, state_after, history_after, AreReports}
-use Rattle.crossbeam_epoch.specs.World.Fits.{Fits, HandFits, at_place, has_ticket, one}
+use Rattle.crossbeam_epoch.specs.world.History.{Mark, Unpinned, Deferred}
+use Rattle.crossbeam_epoch.specs.world.Machine.{State, place, blank, with_place, in_phase, opened, registered, with_store, with_roots, name_of, after_deferral}
+use Rattle.crossbeam_epoch.specs.world.Steps.{quiet_fault, or_count, defer_fault, when, outcome_at, outcome_or, place_or, begin_fault, event_fault, fault, begun_at, begun, gone, moved, needs_memory, after, called_by, called_in, IsOutcome, IsReport, begin_marks, phase_marks, moved_marks, unless_refused, marks, state_after, history_after, AreReports}
+use Rattle.crossbeam_epoch.specs.world.Fits.{Fits, HandFits, at_place, has_ticket, one}
 use Rattle.crossbeam_epoch.proofs.lemmas.world.Moves.{fits_stay, fits_phase, fits_guards, fits_idle, fits_look, fits_relooked, fits_repinned, fits_seal, fits_release_seal, fits_secure_seal, fits_secured, fits_load, fits_inspected, fits_advanced, fits_published, fits_unpinned, fits_queued, fits_left, fits_gone, fits_took, unpinned_now, pinned_now, none_in, none_accepted}
 use Rattle.crossbeam_epoch.proofs.lemmas.world.Jobs.{fits_called, call_marks, fits_after_deferral, no_items}
 

@@ -24,13 +24,13 @@ use Rattle.crossbeam_epoch.specs.declared.world.report.Outcome.{Outcome}
 use Rattle.crossbeam_epoch.specs.declared.world.report.Outcome.TheVariants.{Running, Done, Refused}
 use Rattle.crossbeam_epoch.specs.declared.world.report.Report.{Report}
 use Rattle.crossbeam_epoch.specs.declared.world.report.Step.{Step}
-use Rattle.crossbeam_epoch.specs.World.Fits.{Fits}
-use Rattle.crossbeam_epoch.specs.World.History.{Mark}
+use Rattle.crossbeam_epoch.specs.world.Fits.{Fits}
+use Rattle.crossbeam_epoch.specs.world.History.{Mark}
 use Rattle.crossbeam_epoch.specs.Chain.{room_behind}
-use Rattle.crossbeam_epoch.specs.World.Machine.{State, place, blank, with_place, in_phase, published, is_at, relooked, repinned, has_free, secured, inspection, ends_advance, is_due, taken, after_call, called_one, opened, registered, deferred, deferred_anew, after_deferral}
-use Rattle.crossbeam_epoch.specs.World.Steps.{fault, event_fault, begin_fault, when, begun, gone, moved, needs_memory, after, marks, state_after, AreReports, defer_fault, or_count, quiet_fault, IsOutcome, IsReport}
-use Rattle.crossbeam_epoch.specs.World.Store.{Store}
-use Rattle.crossbeam_epoch.specs.World.Sealing.{SealsAt, IsSealing}
+use Rattle.crossbeam_epoch.specs.world.Machine.{State, place, blank, with_place, in_phase, published, is_at, relooked, repinned, has_free, secured, inspection, ends_advance, is_due, taken, after_call, called_one, opened, registered, deferred, deferred_anew, after_deferral}
+use Rattle.crossbeam_epoch.specs.world.Steps.{fault, event_fault, begin_fault, when, begun, gone, moved, needs_memory, after, marks, state_after, AreReports, defer_fault, or_count, quiet_fault, IsOutcome, IsReport}
+use Rattle.crossbeam_epoch.specs.world.Store.{Store}
+use Rattle.crossbeam_epoch.specs.world.Sealing.{SealsAt, IsSealing}
 use Rattle.crossbeam_epoch.proofs.lemmas.world.Moves.{none_in, top_now, contains_drop}
 use Rattle.crossbeam_epoch.proofs.lemmas.world.Runs.{in_table, known_if_faultless, begin_idle, blank_at, fits_after, no_quiet}
 

@@ -14,9 +14,9 @@ use Rattle.crossbeam_epoch.specs.declared.world.report.Event.TheVariants.{Begin,
 use Rattle.crossbeam_epoch.specs.declared.world.report.Outcome.{Outcome}
 use Rattle.crossbeam_epoch.specs.declared.world.report.Outcome.TheVariants.{Running, Done, Refused}
 use Rattle.crossbeam_epoch.specs.declared.world.report.Report.{Report}
-use Rattle.crossbeam_epoch.specs.World.Machine.{State, place, blank, in_phase, published, is_at, relooked, repinned, secured, has_free, inspection, ends_advance, is_due, no_bag, taken, after_call, called_one}
-use Rattle.crossbeam_epoch.specs.World.Steps.{fault, event_fault, begin_fault, outcome_at, begun_at, begun, gone, needs_memory, after, IsOutcome, IsReport}
-use Rattle.crossbeam_epoch.specs.World.Progress.{Orderly, Stage, Resting, Pinning, Repinning, Flushing, Releasing, Securing, Collecting, stage, comes_by, IsOn, Secures, left_in, refusal, Begins, queues, collects, GoesOn}
+use Rattle.crossbeam_epoch.specs.world.Machine.{State, place, blank, in_phase, published, is_at, relooked, repinned, secured, has_free, inspection, ends_advance, is_due, no_bag, taken, after_call, called_one}
+use Rattle.crossbeam_epoch.specs.world.Steps.{fault, event_fault, begin_fault, outcome_at, begun_at, begun, gone, needs_memory, after, IsOutcome, IsReport}
+use Rattle.crossbeam_epoch.specs.world.Progress.{Orderly, Stage, Resting, Pinning, Repinning, Flushing, Releasing, Securing, Collecting, stage, comes_by, IsOn, Secures, left_in, refusal, Begins, queues, collects, GoesOn}
 use Rattle.crossbeam_epoch.proofs.lemmas.world.Moves.{both_left}
 use Rattle.crossbeam_epoch.proofs.lemmas.world.Progress.{one_less}
 use Rattle.crossbeam_epoch.proofs.lemmas.world.Runs.{in_table, known_if_faultless, refused_begin}

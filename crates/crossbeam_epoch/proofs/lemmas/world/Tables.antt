@@ -16,9 +16,9 @@ use Rattle.crossbeam_epoch.specs.declared.world.report.Op.TheVariants as O
 use Rattle.crossbeam_epoch.specs.declared.world.report.Outcome.{Outcome}
 use Rattle.crossbeam_epoch.specs.declared.world.report.Outcome.TheVariants.{Running, Done, Refused}
 use Rattle.crossbeam_epoch.specs.declared.world.report.Report.{Report}
-use Rattle.crossbeam_epoch.specs.World.Fits.{IsTable}
-use Rattle.crossbeam_epoch.specs.World.Machine.{State, place, blank, no_bag, after_call, published, relooked, repinned, secured, inspection, in_phase, registered, is_due, taken, called_one, deferred, deferred_anew, after_deferral}
-use Rattle.crossbeam_epoch.specs.World.Steps.{after, gone, moved, begun_at, needs_memory, fault, event_fault, defer_fault, or_count, quiet_fault, IsOutcome, IsReport}
+use Rattle.crossbeam_epoch.specs.world.Fits.{IsTable}
+use Rattle.crossbeam_epoch.specs.world.Machine.{State, place, blank, no_bag, after_call, published, relooked, repinned, secured, inspection, in_phase, registered, is_due, taken, called_one, deferred, deferred_anew, after_deferral}
+use Rattle.crossbeam_epoch.specs.world.Steps.{after, gone, moved, begun_at, needs_memory, fault, event_fault, defer_fault, or_count, quiet_fault, IsOutcome, IsReport}
 use Rattle.crossbeam_epoch.proofs.lemmas.world.Runs.{known_if_faultless}
 
 module _ {J : Type 0} where

@@ -13,13 +13,13 @@ use Rattle.crossbeam_epoch.specs.declared.world.participant.Phase.TheVariants.{I
 use Rattle.crossbeam_epoch.specs.declared.world.report.Event.TheVariants.{Begin, Go}
 use Rattle.crossbeam_epoch.specs.declared.world.report.Op.TheVariants as O
 use Rattle.crossbeam_epoch.specs.declared.world.report.Report.{Report}
-use Rattle.crossbeam_epoch.specs.World.Fits.{Fits}
-use Rattle.crossbeam_epoch.specs.World.History.{Mark}
-use Rattle.crossbeam_epoch.specs.World.Machine.{State, place, blank, with_place, in_phase, queued, ends_advance, inspection, is_due, no_bag, taken, after_call, called_one}
-use Rattle.crossbeam_epoch.specs.World.Progress.{Orderly}
-use Rattle.crossbeam_epoch.specs.World.Sealing.{IsSealing}
-use Rattle.crossbeam_epoch.specs.World.Steps.{event_fault, gone, after, IsReport}
-use Rattle.crossbeam_epoch.specs.World.Rounds.{Finishes, TakesOff, IsSealedBag}
+use Rattle.crossbeam_epoch.specs.world.Fits.{Fits}
+use Rattle.crossbeam_epoch.specs.world.History.{Mark}
+use Rattle.crossbeam_epoch.specs.world.Machine.{State, place, blank, with_place, in_phase, queued, ends_advance, inspection, is_due, no_bag, taken, after_call, called_one}
+use Rattle.crossbeam_epoch.specs.world.Progress.{Orderly}
+use Rattle.crossbeam_epoch.specs.world.Sealing.{IsSealing}
+use Rattle.crossbeam_epoch.specs.world.Steps.{event_fault, gone, after, IsReport}
+use Rattle.crossbeam_epoch.specs.world.Rounds.{Finishes, TakesOff, IsSealedBag}
 use Rattle.crossbeam_epoch.proofs.lemmas.world.Collecting.{IsTaking, due_front, no_more, none_taken, not_due, one_more}
 use Rattle.crossbeam_epoch.proofs.lemmas.world.Jobs.{no_items}
 use Rattle.crossbeam_epoch.proofs.lemmas.world.Rounds.{IsKept, busy, kept_from, kept_step, sealed_none, sealed_own, some_jobs}

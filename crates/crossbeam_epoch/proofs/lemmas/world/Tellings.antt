@@ -16,12 +16,12 @@ use Rattle.crossbeam_epoch.specs.declared.world.report.Outcome.{Outcome}
 use Rattle.crossbeam_epoch.specs.declared.world.report.Outcome.TheVariants.{Running, Done, Refused}
 use Rattle.crossbeam_epoch.specs.declared.world.report.Report.{Report}
 use Rattle.crossbeam_epoch.specs.declared.world.report.Step.{Step}
-use Rattle.crossbeam_epoch.specs.World.History.{Mark, Unpinned}
-use Rattle.crossbeam_epoch.specs.World.Machine.{State, place}
-use Rattle.crossbeam_epoch.specs.World.Progress.{Orderly, Moves, EmptiesAt, Empties}
-use Rattle.crossbeam_epoch.specs.World.Steps.{begin_marks, phase_marks, moved_marks, unless_refused, after, marks, history_after, state_after, AreReports, IsReport}
-use Rattle.crossbeam_epoch.specs.World.Store.{Store, fresh, cell_at, value_in, value_at, was_given, IsNext, Sets, placed, emptied, replaced, opened_store}
-use Rattle.crossbeam_epoch.specs.World.Sealing.{is_name, counts_name, destructions, bit, DestroyedOnce}
+use Rattle.crossbeam_epoch.specs.world.History.{Mark, Unpinned}
+use Rattle.crossbeam_epoch.specs.world.Machine.{State, place}
+use Rattle.crossbeam_epoch.specs.world.Progress.{Orderly, Moves, EmptiesAt, Empties}
+use Rattle.crossbeam_epoch.specs.world.Steps.{begin_marks, phase_marks, moved_marks, unless_refused, after, marks, history_after, state_after, AreReports, IsReport}
+use Rattle.crossbeam_epoch.specs.world.Store.{Store, fresh, cell_at, value_in, value_at, was_given, IsNext, Sets, placed, emptied, replaced, opened_store}
+use Rattle.crossbeam_epoch.specs.world.Sealing.{is_name, counts_name, destructions, bit, DestroyedOnce}
 use Rattle.crossbeam_epoch.proofs.lemmas.world.CellWrites.{placed_sets, emptied_sets, replaced_sets}
 use Rattle.crossbeam_epoch.proofs.lemmas.world.Givens.{live_given}
 use Rattle.crossbeam_epoch.proofs.lemmas.world.Progress.{moves_reported}

@@ -23,12 +23,12 @@ use Rattle.crossbeam_epoch.specs.declared.world.report.Outcome.{Outcome}
 use Rattle.crossbeam_epoch.specs.declared.world.report.Outcome.TheVariants.{Running, Done, Refused}
 use Rattle.crossbeam_epoch.specs.declared.world.report.Report.{Report}
 use Rattle.crossbeam_epoch.specs.declared.world.report.Step.{Step}
-use Rattle.crossbeam_epoch.specs.World.History.{Mark, Unpinned, Deferred}
-use Rattle.crossbeam_epoch.specs.World.Machine.{State, place, in_phase, is_due, taken, called_one, no_entry, destroys, after_work, opened, registered, with_store, with_roots, after_deferral, deferred, deferred_anew, name_of}
-use Rattle.crossbeam_epoch.specs.World.Store.{Store, fresh, cell_at, value_in, value_at, emptied, replaced, placed, with_cell, is_usable, IsNext, was_given}
-use Rattle.crossbeam_epoch.specs.World.Steps.{after, gone, needs_memory, called_by, called_entry, called_in, defer_fault, IsReport, begin_marks, phase_marks, moved_marks, unless_refused, marks, state_after, AreReports}
-use Rattle.crossbeam_epoch.specs.World.Fits.{Fits, IsTable}
-use Rattle.crossbeam_epoch.specs.World.Reach.{Act, Quiet, Marked, Moment, WasLive, with_act, marks_of, IsDestruction, moment, HasMoments, NextMoment, newest_act, step_act, moments_after, GivenBack}
+use Rattle.crossbeam_epoch.specs.world.History.{Mark, Unpinned, Deferred}
+use Rattle.crossbeam_epoch.specs.world.Machine.{State, place, in_phase, is_due, taken, called_one, no_entry, destroys, after_work, opened, registered, with_store, with_roots, after_deferral, deferred, deferred_anew, name_of}
+use Rattle.crossbeam_epoch.specs.world.Store.{Store, fresh, cell_at, value_in, value_at, emptied, replaced, placed, with_cell, is_usable, IsNext, was_given}
+use Rattle.crossbeam_epoch.specs.world.Steps.{after, gone, needs_memory, called_by, called_entry, called_in, defer_fault, IsReport, begin_marks, phase_marks, moved_marks, unless_refused, marks, state_after, AreReports}
+use Rattle.crossbeam_epoch.specs.world.Fits.{Fits, IsTable}
+use Rattle.crossbeam_epoch.specs.world.Reach.{Act, Quiet, Marked, Moment, WasLive, with_act, marks_of, IsDestruction, moment, HasMoments, NextMoment, newest_act, step_act, moments_after, GivenBack}
 use Rattle.crossbeam_epoch.proofs.lemmas.world.Runs.{fits_after, fits_opened, fits_registered, fits_store, fits_roots, fits_deferring}
 use Rattle.crossbeam_epoch.proofs.lemmas.world.Givens.{Keeps, live_given, emptied_keeps, replaced_keeps, placed_keeps, after_keeps, next_new}
 use Rattle.crossbeam_epoch.proofs.lemmas.world.Tables.{table_is, table_after, table_new, table_registered, table_deferral}

@@ -2,8 +2,8 @@
 use Rattle.std.proofs.Common.{◌≡◌, ℕ, ◌+◌, Bool, true, false, List, [], ◌∷◌, ◌==◌, Option, Some, None, refl, ◌∙◌, ap, inl, inr}
 use Rattle.std.specs.Prelude.{if◌then◌else◌, is_some}
 use Rattle.crossbeam_epoch.specs.declared.names.Name.{Name}
-use Rattle.crossbeam_epoch.specs.World.History.{Mark, Pinned, Repinned, Unpinned, Deferred, Called, began, blocks, times_called, deferrals, IsGraceful, WasDeferred, AreCalledLater}
-use Rattle.crossbeam_epoch.specs.World.Log.{untold, undated}
+use Rattle.crossbeam_epoch.specs.world.History.{Mark, Pinned, Repinned, Unpinned, Deferred, Called, began, blocks, times_called, deferrals, IsGraceful, WasDeferred, AreCalledLater}
+use Rattle.crossbeam_epoch.specs.world.Log.{untold, undated}
 
 some_by : (b : Bool) (m n : ℕ) (x y : Option ℕ) → is_some x ≡ is_some y → is_some (if b then Some m else x) ≡ is_some (if b then Some n else y)
 some_by true m n x y e = refl

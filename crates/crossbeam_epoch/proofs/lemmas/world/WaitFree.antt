@@ -19,11 +19,11 @@ use Rattle.crossbeam_epoch.specs.declared.world.report.Outcome.{Outcome}
 use Rattle.crossbeam_epoch.specs.declared.world.report.Outcome.TheVariants.{Running, Done, Refused}
 use Rattle.crossbeam_epoch.specs.declared.world.report.Report.{Report}
 use Rattle.crossbeam_epoch.specs.declared.world.report.Step.{Step}
-use Rattle.crossbeam_epoch.specs.World.Calls.{call_steps, IsCall}
-use Rattle.crossbeam_epoch.specs.World.Machine.{State, place}
-use Rattle.crossbeam_epoch.specs.World.Progress.{Orderly, Moves, Begins, GoesOn, IsOn, comes_by, left_in, stage, steps_left}
-use Rattle.crossbeam_epoch.specs.World.Steps.{fault, busy_fault, event_fault, after, IsOutcome, IsReport, AreReports}
-use Rattle.crossbeam_epoch.specs.World.WaitFree.{most_steps, is_own, counted, steps_in_flight, AllEndInTime, IsOver}
+use Rattle.crossbeam_epoch.specs.world.Calls.{call_steps, IsCall}
+use Rattle.crossbeam_epoch.specs.world.Machine.{State, place}
+use Rattle.crossbeam_epoch.specs.world.Progress.{Orderly, Moves, Begins, GoesOn, IsOn, comes_by, left_in, stage, steps_left}
+use Rattle.crossbeam_epoch.specs.world.Steps.{fault, busy_fault, event_fault, after, IsOutcome, IsReport, AreReports}
+use Rattle.crossbeam_epoch.specs.world.WaitFree.{most_steps, is_own, counted, steps_in_flight, AllEndInTime, IsOver}
 use Rattle.crossbeam_epoch.proofs.lemmas.world.Moves.{contains_tail}
 use Rattle.crossbeam_epoch.proofs.lemmas.world.Progress.{moves_reported}
 use Rattle.crossbeam_epoch.proofs.lemmas.world.Runs.{known_if_faultless, begin_idle, refused_begin}

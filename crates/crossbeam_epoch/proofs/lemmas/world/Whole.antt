@@ -10,9 +10,9 @@ use Rattle.crossbeam_epoch.specs.declared.world.report.Op.{Op}
 use Rattle.crossbeam_epoch.specs.declared.world.report.Outcome.TheVariants.{Running}
 use Rattle.crossbeam_epoch.specs.declared.world.report.Report.{Report}
 use Rattle.crossbeam_epoch.specs.declared.world.report.Step.{Step}
-use Rattle.crossbeam_epoch.specs.World.Machine.{State}
-use Rattle.crossbeam_epoch.specs.World.Steps.{after, IsReport, state_after, AreReports}
-use Rattle.crossbeam_epoch.specs.World.Calls.{event_at, call_steps, EndsWith, IsCall, IsGoing}
+use Rattle.crossbeam_epoch.specs.world.Machine.{State}
+use Rattle.crossbeam_epoch.specs.world.Steps.{after, IsReport, state_after, AreReports}
+use Rattle.crossbeam_epoch.specs.world.Calls.{event_at, call_steps, EndsWith, IsCall, IsGoing}
 use Rattle.crossbeam_epoch.proofs.lemmas.world.Runs.{state_more, legal_more}
 
 length_call : (who : ℕ) (op : Op) (n : ℕ) → length (call_steps who op n) ≡ n

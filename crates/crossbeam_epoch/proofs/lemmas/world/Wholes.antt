@@ -11,10 +11,10 @@ use Rattle.crossbeam_epoch.specs.declared.world.report.Outcome.{Outcome}
 use Rattle.crossbeam_epoch.specs.declared.world.report.Outcome.TheVariants.{Running, Done, Refused}
 use Rattle.crossbeam_epoch.specs.declared.world.report.Report.{Report}
 use Rattle.crossbeam_epoch.specs.declared.world.report.Step.{Step}
-use Rattle.crossbeam_epoch.specs.World.Machine.{State, place}
-use Rattle.crossbeam_epoch.specs.World.Steps.{fault, moved, after, IsOutcome, IsReport, state_after, AreReports}
-use Rattle.crossbeam_epoch.specs.World.Calls.{call_steps}
-use Rattle.crossbeam_epoch.specs.World.Rounds.{Finishes}
+use Rattle.crossbeam_epoch.specs.world.Machine.{State, place}
+use Rattle.crossbeam_epoch.specs.world.Steps.{fault, moved, after, IsOutcome, IsReport, state_after, AreReports}
+use Rattle.crossbeam_epoch.specs.world.Calls.{call_steps}
+use Rattle.crossbeam_epoch.specs.world.Rounds.{Finishes}
 use Rattle.crossbeam_epoch.proofs.lemmas.world.Moves.{contains_tail}
 use Rattle.crossbeam_epoch.proofs.lemmas.world.Stages.{done_idle}
 

@@ -6,7 +6,7 @@ use borrow.Author.Count.{below_more}
 use Rattle.crossbeam_epoch.specs.declared.world.participant.Participant.{Participant}
 use Rattle.crossbeam_epoch.specs.declared.bag.Sealed.{Sealed}
 use Rattle.crossbeam_epoch.specs.Chain.{refilled}
-use Rattle.crossbeam_epoch.specs.World.Machine.{State, place, blank}
+use Rattle.crossbeam_epoch.specs.world.Machine.{State, place, blank}
 
 -- a reservation that didn't fail made room for one more
 pub room_made : {A E : Type 0} (r : Result A E) (failed : Bool) (before room : ℕ) → failed ≡ is_err r → failed ≡ false → OnOk r (room ≡ refilled before) → 0 < room

@@ -2,7 +2,7 @@ use Rattle.std.proofs.Common.{◌++◌, ◌∷◌, [], ◌∙◌, ap, replicate}
 use Rattle.std.proofs.lemmas.List.{replicate_more}
 use borrow.Author.Count.{falls}
 use native.Mathlib.Nat.{le_antisymm}
-use Rattle.crossbeam_epoch.specs.World.Machine.{blank}
+use Rattle.crossbeam_epoch.specs.world.Machine.{blank}
 use Rattle.crossbeam_epoch.proofs.world.blanks.Goals as goal
 
 pub loop-init : goal.loop-init

@@ -2,7 +2,7 @@ use Rattle.std.proofs.Common.{◌++◌, ◌∷◌, [], ◌∙◌, ap, replicate}
 use Rattle.std.proofs.lemmas.List.{replicate_more}
 use borrow.Author.Count.{falls}
 use native.Mathlib.Nat.{le_antisymm}
-use Rattle.crossbeam_epoch.specs.World.Machine.{null}
+use Rattle.crossbeam_epoch.specs.world.Machine.{null}
 use Rattle.crossbeam_epoch.proofs.world.nulls.Goals as goal
 
 pub loop-init : goal.loop-init

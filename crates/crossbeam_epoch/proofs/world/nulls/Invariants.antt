@@ -1,5 +1,5 @@
 use Rattle.std.proofs.Common.{◌≡◌, replicate}
-use Rattle.crossbeam_epoch.specs.World.Machine.{null}
+use Rattle.crossbeam_epoch.specs.world.Machine.{null}
 use Rattle.crossbeam_epoch.proofs.world.nulls.Given as goal
 
 abbrev pub invariant-loop : goal.invariant-loop

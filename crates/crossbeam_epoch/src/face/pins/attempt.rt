@@ -1,9 +1,9 @@
 //! The steps of an attempt to advance the epoch, which alone tell of it.
 
 ghost use Rattle.std.specs.Prelude.{◌≡◌, ◌<◌, ◌≤◌, ◌^◌, MatchOption};
-ghost use Rattle.crossbeam_epoch.specs.Face.Attempt.{IsAttempt};
-ghost use Rattle.crossbeam_epoch.specs.Face.Pins.{with_seen, IsRead};
-ghost use Rattle.crossbeam_epoch.specs.Face.Tokens.{known, IsOf};
+ghost use Rattle.crossbeam_epoch.specs.face.Attempt.{IsAttempt};
+ghost use Rattle.crossbeam_epoch.specs.face.Pins.{with_seen, IsRead};
+ghost use Rattle.crossbeam_epoch.specs.face.Tokens.{known, IsOf};
 
 use crate::face::pins::{Pins, passes, word_of};
 use crate::face::seats::{Advance, Inspect, Token};

@@ -5,7 +5,7 @@ use Rattle.std.specs.Prelude.{Option, None, Some, slice_get}
 use Rattle.std.proofs.lemmas.Bool.{cases_Bool, eqb-true, eqb-false, false≢true}
 use Rattle.std.proofs.lemmas.Option.{slice_get_within}
 use Rattle.judge.specs.declared.journal.Reply.{Reply}
-use Rattle.crossbeam_epoch.specs.World.Machine.{with_store}
+use Rattle.crossbeam_epoch.specs.world.Machine.{with_store}
 use Rattle.crossbeam_epoch.specs.declared.fault.Fault.{Fault}
 use Rattle.crossbeam_epoch.specs.declared.world.participant.Participant.{Participant}
 use Rattle.congee.specs.declared.forms.base_node.NodeType.{NodeType}

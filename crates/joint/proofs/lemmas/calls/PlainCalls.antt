@@ -12,7 +12,7 @@ use Rattle.crossbeam_epoch.specs.declared.world.report.Op.{Op as CollectorOp}
 use Rattle.crossbeam_epoch.specs.declared.world.report.Outcome.{Outcome as CollectorOutcome}
 use Rattle.crossbeam_epoch.specs.declared.world.report.Outcome.TheVariants as collector_outcome
 use Rattle.crossbeam_epoch.specs.declared.world.report.Report.{Report as Collection}
-use Rattle.crossbeam_epoch.specs.World.Store.{value_at, was_given}
+use Rattle.crossbeam_epoch.specs.world.Store.{value_at, was_given}
 use Rattle.congee.specs.declared.forms.base_node.NodeType.{NodeType}
 use Rattle.congee.specs.declared.protocol.machine.Machine.{Machine}
 use Rattle.congee.specs.declared.protocol.machine.Noise.{Noise}

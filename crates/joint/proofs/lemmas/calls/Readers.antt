@@ -10,9 +10,9 @@ use Rattle.crossbeam_epoch.specs.declared.world.report.Event.TheVariants as coll
 use Rattle.crossbeam_epoch.specs.declared.world.report.Op.TheVariants as collector_op
 use Rattle.crossbeam_epoch.specs.declared.world.report.Outcome.{Outcome as CollectorOutcome}
 use Rattle.crossbeam_epoch.specs.declared.world.report.Outcome.TheVariants as collector_outcome
-use Rattle.crossbeam_epoch.specs.World.Machine.{State, place}
-use Rattle.crossbeam_epoch.specs.World.Progress.{Begins, GoesOn, refusal}
-use Rattle.crossbeam_epoch.specs.World.Steps.{begin_fault}
+use Rattle.crossbeam_epoch.specs.world.Machine.{State, place}
+use Rattle.crossbeam_epoch.specs.world.Progress.{Begins, GoesOn, refusal}
+use Rattle.crossbeam_epoch.specs.world.Steps.{begin_fault}
 use Rattle.congee.specs.declared.forms.child.Child.{Child}
 use Rattle.congee.specs.declared.forms.child.Child.TheVariants as child
 use Rattle.congee.specs.declared.forms.base_node.NodeType.{NodeType}

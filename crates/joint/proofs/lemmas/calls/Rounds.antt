@@ -23,14 +23,14 @@ use Rattle.crossbeam_epoch.specs.declared.world.report.Op.TheVariants as collect
 use Rattle.crossbeam_epoch.specs.declared.world.report.Outcome.{Outcome as CollectorOutcome}
 use Rattle.crossbeam_epoch.specs.declared.world.report.Outcome.TheVariants as collector_outcome
 use Rattle.crossbeam_epoch.specs.declared.world.report.Report.{Report as Collection}
-use Rattle.crossbeam_epoch.specs.World.Calls.{IsCall, IsGoing}
-use Rattle.crossbeam_epoch.specs.World.Fits.{at_place, in_bag, job_count, weight}
-use Rattle.crossbeam_epoch.specs.World.Machine.{State, blank, place, name_of}
-use Rattle.crossbeam_epoch.specs.World.Progress.{Orderly}
-use Rattle.crossbeam_epoch.specs.World.Reach.{Moment, HasMoments}
-use Rattle.crossbeam_epoch.specs.World.Rounds as collector
-use Rattle.crossbeam_epoch.specs.World.Sealing.{IsSealing, bit, is_name, counts_name}
-use Rattle.crossbeam_epoch.specs.World.Steps.{IsReport, after}
+use Rattle.crossbeam_epoch.specs.world.Calls.{IsCall, IsGoing}
+use Rattle.crossbeam_epoch.specs.world.Fits.{at_place, in_bag, job_count, weight}
+use Rattle.crossbeam_epoch.specs.world.Machine.{State, blank, place, name_of}
+use Rattle.crossbeam_epoch.specs.world.Progress.{Orderly}
+use Rattle.crossbeam_epoch.specs.world.Reach.{Moment, HasMoments}
+use Rattle.crossbeam_epoch.specs.world.Rounds as collector
+use Rattle.crossbeam_epoch.specs.world.Sealing.{IsSealing, bit, is_name, counts_name}
+use Rattle.crossbeam_epoch.specs.world.Steps.{IsReport, after}
 use Rattle.congee.specs.declared.protocol.machine.Machine.{Machine}
 use Rattle.congee.specs.declared.protocol.machine.Noise.{Noise}
 use Rattle.congee.specs.declared.protocol.phase.Phase.{Phase}

@@ -13,13 +13,13 @@ use Rattle.crossbeam_epoch.specs.declared.world.report.Op.TheVariants as collect
 use Rattle.crossbeam_epoch.specs.declared.world.report.Outcome.{Outcome as CollectorOutcome}
 use Rattle.crossbeam_epoch.specs.declared.world.report.Outcome.TheVariants as collector_outcome
 use Rattle.crossbeam_epoch.specs.declared.world.report.Report.{Report as Collection}
-use Rattle.crossbeam_epoch.specs.World.Fits.{Bounds}
-use Rattle.crossbeam_epoch.specs.World.History.{Mark, Deferred, began}
-use Rattle.crossbeam_epoch.specs.World.Machine.{State, place, with_store}
-use Rattle.crossbeam_epoch.specs.World.Progress.{comes_by, stage as stage_of}
-use Rattle.crossbeam_epoch.specs.World.Reach.{marks_of, Visible}
-use Rattle.crossbeam_epoch.specs.World.Steps.{marks}
-use Rattle.crossbeam_epoch.specs.World.Store.{value_at}
+use Rattle.crossbeam_epoch.specs.world.Fits.{Bounds}
+use Rattle.crossbeam_epoch.specs.world.History.{Mark, Deferred, began}
+use Rattle.crossbeam_epoch.specs.world.Machine.{State, place, with_store}
+use Rattle.crossbeam_epoch.specs.world.Progress.{comes_by, stage as stage_of}
+use Rattle.crossbeam_epoch.specs.world.Reach.{marks_of, Visible}
+use Rattle.crossbeam_epoch.specs.world.Steps.{marks}
+use Rattle.crossbeam_epoch.specs.world.Store.{value_at}
 use Rattle.congee.specs.declared.protocol.machine.Machine.{Machine}
 use Rattle.congee.specs.declared.protocol.machine.Noise.{Noise}
 use Rattle.congee.specs.declared.protocol.op.Op.{Op as Point}

@@ -15,13 +15,13 @@ use Rattle.crossbeam_epoch.specs.declared.world.report.Op.TheVariants.{Unpin}
 use Rattle.crossbeam_epoch.specs.declared.world.report.Outcome.{Outcome}
 use Rattle.crossbeam_epoch.specs.declared.world.report.Outcome.TheVariants.{Running, Done, Refused}
 use Rattle.crossbeam_epoch.specs.declared.world.report.Report.{Report}
-use Rattle.crossbeam_epoch.specs.World.Fits.{Fits}
-use Rattle.crossbeam_epoch.specs.World.History.{Mark, Pinned, Repinned, Unpinned, Deferred, Called, began, blocks, WasDeferred}
-use Rattle.crossbeam_epoch.specs.World.Machine.{State, place, deferred, deferred_anew, registered, with_store}
-use Rattle.crossbeam_epoch.specs.World.Progress.{Moves, Empties, EmptiesAt}
-use Rattle.crossbeam_epoch.specs.World.Reach.{Act, Quiet, Marked, GivenBack, Moment, with_act, marks_of, changes_pin, mark_changes_pin, LeavesFirst, Visible}
-use Rattle.crossbeam_epoch.specs.World.Steps.{IsReport, after, begin_marks, phase_marks, moved_marks, unless_refused, marks, called_in}
-use Rattle.crossbeam_epoch.specs.World.Store.{Sets, value_at, emptied}
+use Rattle.crossbeam_epoch.specs.world.Fits.{Fits}
+use Rattle.crossbeam_epoch.specs.world.History.{Mark, Pinned, Repinned, Unpinned, Deferred, Called, began, blocks, WasDeferred}
+use Rattle.crossbeam_epoch.specs.world.Machine.{State, place, deferred, deferred_anew, registered, with_store}
+use Rattle.crossbeam_epoch.specs.world.Progress.{Moves, Empties, EmptiesAt}
+use Rattle.crossbeam_epoch.specs.world.Reach.{Act, Quiet, Marked, GivenBack, Moment, with_act, marks_of, changes_pin, mark_changes_pin, LeavesFirst, Visible}
+use Rattle.crossbeam_epoch.specs.world.Steps.{IsReport, after, begin_marks, phase_marks, moved_marks, unless_refused, marks, called_in}
+use Rattle.crossbeam_epoch.specs.world.Store.{Sets, value_at, emptied}
 use Rattle.crossbeam_epoch.proofs.Laws.{fits_after_deferral, act_steady, fits_after, fits_registered, fits_store}
 use Rattle.joint.specs.engine.Laws.{CellLaws}
 use Rattle.joint.specs.NameLemmas.{same_name}

@@ -2,9 +2,9 @@
 use Rattle.std.proofs.Common.{◌≡◌, ℕ, Bool, List, ◌∷◌, sym, subst}
 use Rattle.crossbeam_epoch.specs.declared.world.report.Event.{Event}
 use Rattle.crossbeam_epoch.specs.declared.world.report.Report.{Report}
-use Rattle.crossbeam_epoch.specs.World.Progress.{Moves}
-use Rattle.crossbeam_epoch.specs.World.Reach.{Moment, marks_of, moment, step_act, HasMoments}
-use Rattle.crossbeam_epoch.specs.World.Steps.{IsReport, after}
+use Rattle.crossbeam_epoch.specs.world.Progress.{Moves}
+use Rattle.crossbeam_epoch.specs.world.Reach.{Moment, marks_of, moment, step_act, HasMoments}
+use Rattle.crossbeam_epoch.specs.world.Steps.{IsReport, after}
 use Rattle.congee.specs.declared.protocol.machine.Machine.{Machine}
 use Rattle.congee.specs.protocol.Answers.{SameMap}
 use Rattle.congee.specs.protocol.Bounds.{Within}

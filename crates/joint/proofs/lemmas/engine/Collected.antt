@@ -7,11 +7,11 @@ use Rattle.std.proofs.lemmas.List.Elements.{All-weaker, All-contains_itself}
 use Rattle.crossbeam_epoch.specs.declared.names.Name.{Name}
 use Rattle.crossbeam_epoch.specs.declared.names.Ptr.{Ptr}
 use Rattle.crossbeam_epoch.specs.declared.world.participant.Participant.{Participant}
-use Rattle.crossbeam_epoch.specs.World.Machine.{State, place}
-use Rattle.crossbeam_epoch.specs.World.History.{began, WasDeferred}
-use Rattle.crossbeam_epoch.specs.World.Progress.{Moves, Empties, EmptiesAt}
-use Rattle.crossbeam_epoch.specs.World.Reach.{Act, GivenBack, Moment, marks_of, InReach, IsIn, IsBy, WasIn, Visible, IsCareful, links_of, links_in, moment, HasMoments}
-use Rattle.crossbeam_epoch.specs.World.Store.{Store, Sets, value_at, was_given, emptied}
+use Rattle.crossbeam_epoch.specs.world.Machine.{State, place}
+use Rattle.crossbeam_epoch.specs.world.History.{began, WasDeferred}
+use Rattle.crossbeam_epoch.specs.world.Progress.{Moves, Empties, EmptiesAt}
+use Rattle.crossbeam_epoch.specs.world.Reach.{Act, GivenBack, Moment, marks_of, InReach, IsIn, IsBy, WasIn, Visible, IsCareful, links_of, links_in, moment, HasMoments}
+use Rattle.crossbeam_epoch.specs.world.Store.{Store, Sets, value_at, was_given, emptied}
 use Rattle.congee.specs.declared.protocol.machine.Machine.{Machine}
 use Rattle.congee.specs.declared.protocol.phase.Phase.TheVariants.{Ended}
 use Rattle.congee.specs.Heap.{Node}

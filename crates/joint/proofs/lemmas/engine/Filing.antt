@@ -11,13 +11,13 @@ use Rattle.crossbeam_epoch.specs.declared.names.Name.{Name}
 use Rattle.crossbeam_epoch.specs.declared.world.participant.Phase.TheVariants as collector_phase
 use Rattle.crossbeam_epoch.specs.declared.world.report.Event.{Event}
 use Rattle.crossbeam_epoch.specs.declared.world.report.Report.{Report}
-use Rattle.crossbeam_epoch.specs.World.Fits.{Fits, weight}
-use Rattle.crossbeam_epoch.specs.World.History.{Mark}
-use Rattle.crossbeam_epoch.specs.World.Machine.{State, blank, place, name_of, after_work, deferred, opened, registered, with_store}
-use Rattle.crossbeam_epoch.specs.World.Progress.{Orderly, JobsAfter, Moves}
-use Rattle.crossbeam_epoch.specs.World.Sealing.{IsSealing, bit, is_name, counts_name}
-use Rattle.crossbeam_epoch.specs.World.Steps.{IsReport, after}
-use Rattle.crossbeam_epoch.specs.World.Store.{Store, value_at, was_given, emptied}
+use Rattle.crossbeam_epoch.specs.world.Fits.{Fits, weight}
+use Rattle.crossbeam_epoch.specs.world.History.{Mark}
+use Rattle.crossbeam_epoch.specs.world.Machine.{State, blank, place, name_of, after_work, deferred, opened, registered, with_store}
+use Rattle.crossbeam_epoch.specs.world.Progress.{Orderly, JobsAfter, Moves}
+use Rattle.crossbeam_epoch.specs.world.Sealing.{IsSealing, bit, is_name, counts_name}
+use Rattle.crossbeam_epoch.specs.world.Steps.{IsReport, after}
+use Rattle.crossbeam_epoch.specs.world.Store.{Store, value_at, was_given, emptied}
 use Rattle.congee.specs.declared.protocol.machine.Machine.{Machine}
 use Rattle.congee.specs.declared.protocol.machine.Move.{Move}
 use Rattle.congee.specs.declared.protocol.phase.Phase.{Phase}

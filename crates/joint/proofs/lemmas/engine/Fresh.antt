@@ -2,8 +2,8 @@
 use Rattle.std.proofs.Common.{◌≡◌, ◌≤◌, ℕ, zero, suc, arith, Bool, List, [], ◌∷◌, refl, sym, ◌∙◌, ap, subst, inr}
 use Rattle.std.specs.Prelude.{Some, length, replicate, slice_get}
 use Rattle.std.proofs.lemmas.List.{length-replicate}
-use Rattle.crossbeam_epoch.specs.World.Machine.{place}
-use Rattle.crossbeam_epoch.specs.World.Reach.{Quiet, moment}
+use Rattle.crossbeam_epoch.specs.world.Machine.{place}
+use Rattle.crossbeam_epoch.specs.world.Reach.{Quiet, moment}
 use Rattle.congee.specs.declared.protocol.machine.Machine.{Machine}
 use Rattle.congee.specs.declared.protocol.phase.Phase.TheVariants.{Ended}
 use Rattle.congee.specs.protocol.Bounds.{Within}

@@ -4,10 +4,10 @@ use Rattle.std.specs.Prelude.{is_some}
 use Rattle.std.specs.List.{Contains}
 use Rattle.std.proofs.lemmas.Bool.{cases_eq, eq-eqb, ne_eqb}
 use Rattle.crossbeam_epoch.specs.declared.names.Name.{Name}
-use Rattle.crossbeam_epoch.specs.World.Machine.{State}
-use Rattle.crossbeam_epoch.specs.World.History.{Mark, WasDeferred}
-use Rattle.crossbeam_epoch.specs.World.Store.{value_at, was_given}
-use Rattle.crossbeam_epoch.specs.World.Reach.{Act, Quiet, Marked, GivenBack, Moment, marks_of, IsIn, WasIn, WasLive, Visible, EntersLive, IsDestruction, DestructionsTold, IsCareful, links_of, IsNow}
+use Rattle.crossbeam_epoch.specs.world.Machine.{State}
+use Rattle.crossbeam_epoch.specs.world.History.{Mark, WasDeferred}
+use Rattle.crossbeam_epoch.specs.world.Store.{value_at, was_given}
+use Rattle.crossbeam_epoch.specs.world.Reach.{Act, Quiet, Marked, GivenBack, Moment, marks_of, IsIn, WasIn, WasLive, Visible, EntersLive, IsDestruction, DestructionsTold, IsCareful, links_of, IsNow}
 use Rattle.joint.specs.Names.{number}
 use Rattle.joint.specs.engine.Laws.{CellLaws}
 use Rattle.joint.specs.NameLemmas.{same_name}

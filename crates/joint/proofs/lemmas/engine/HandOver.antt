@@ -10,10 +10,10 @@ use Rattle.crossbeam_epoch.specs.declared.fault.Fault.TheVariants.{Memory, Unpin
 use Rattle.crossbeam_epoch.specs.declared.names.Name.{Name}
 use Rattle.crossbeam_epoch.specs.declared.world.participant.Participant.{Participant}
 use Rattle.crossbeam_epoch.specs.declared.world.participant.Phase.{Phase as CollectorPhase}
-use Rattle.crossbeam_epoch.specs.World.History.{Deferred, WasDeferred}
-use Rattle.crossbeam_epoch.specs.World.Machine.{State, blank, place, deferred, deferred_anew, after_deferral}
-use Rattle.crossbeam_epoch.specs.World.Reach.{Marked, Moment, marks_of, moment, HasMoments}
-use Rattle.crossbeam_epoch.specs.World.Steps.{when, quiet_fault, or_count, defer_fault, destroy_fault}
+use Rattle.crossbeam_epoch.specs.world.History.{Deferred, WasDeferred}
+use Rattle.crossbeam_epoch.specs.world.Machine.{State, blank, place, deferred, deferred_anew, after_deferral}
+use Rattle.crossbeam_epoch.specs.world.Reach.{Marked, Moment, marks_of, moment, HasMoments}
+use Rattle.crossbeam_epoch.specs.world.Steps.{when, quiet_fault, or_count, defer_fault, destroy_fault}
 use Rattle.congee.specs.declared.protocol.machine.Machine.{Machine}
 use Rattle.joint.specs.declared.id.Id.{Id}
 use Rattle.joint.specs.declared.nodes.slot.Slot.{Slot}

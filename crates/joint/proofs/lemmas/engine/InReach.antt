@@ -2,9 +2,9 @@
 use Rattle.std.proofs.Common.{◌≡◌, ℕ, Bool, true, false, List, refl}
 use Rattle.std.specs.Prelude.{Option}
 use Rattle.crossbeam_epoch.specs.declared.names.Name.{Name}
-use Rattle.crossbeam_epoch.specs.World.Machine.{State}
-use Rattle.crossbeam_epoch.specs.World.History.{WasDeferred}
-use Rattle.crossbeam_epoch.specs.World.Reach.{Moment, marks_of}
+use Rattle.crossbeam_epoch.specs.world.Machine.{State}
+use Rattle.crossbeam_epoch.specs.world.History.{WasDeferred}
+use Rattle.crossbeam_epoch.specs.world.Reach.{Moment, marks_of}
 use Rattle.congee.specs.declared.protocol.machine.Machine.{Machine}
 use Rattle.congee.specs.Heap.{Node, Stands}
 use Rattle.congee.specs.protocol.Handing.{InTree}

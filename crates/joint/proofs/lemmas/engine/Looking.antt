@@ -3,7 +3,7 @@ use Rattle.std.proofs.Common.{◌≡◌, ℕ, Bool, true, false, refl, sym, ◌�
 use Rattle.std.specs.Prelude.{Option, None, Some, Result, Ok, Err, IsSome, is_none, is_some, slice_get, if◌then◌else◌, IfErr}
 use Rattle.crossbeam_epoch.specs.declared.fault.Fault.{Fault}
 use Rattle.crossbeam_epoch.specs.declared.fault.Fault.TheVariants as fault
-use Rattle.crossbeam_epoch.specs.World.Steps.{when}
+use Rattle.crossbeam_epoch.specs.world.Steps.{when}
 use Rattle.judge.specs.Answer.{Pairs}
 use Rattle.joint.specs.declared.refusal.Refusal.{Refusal}
 use Rattle.joint.specs.declared.refusal.Refusal.TheVariants.{Busy, Unknown, Unpinned}

@@ -3,12 +3,12 @@ use Rattle.std.proofs.Common.{◌≡◌, ◌+◌, ◌<◌, ◌≤◌, arith, ℕ
 use Rattle.std.specs.Prelude.{Option, None, Some, is_some, length}
 use Rattle.std.specs.List.{Contains}
 use Rattle.crossbeam_epoch.specs.declared.world.participant.Participant.{Participant}
-use Rattle.crossbeam_epoch.specs.World.Fits.{Fits, Bounds}
+use Rattle.crossbeam_epoch.specs.world.Fits.{Fits, Bounds}
 use Rattle.crossbeam_epoch.specs.declared.names.Name.{Name}
-use Rattle.crossbeam_epoch.specs.World.History as H
-use Rattle.crossbeam_epoch.specs.World.History.{Mark, WasDeferred, began}
-use Rattle.crossbeam_epoch.specs.World.Reach.{Act, Quiet, Marked, GivenBack, with_act}
-use Rattle.crossbeam_epoch.specs.World.Machine.{State, place}
+use Rattle.crossbeam_epoch.specs.world.History as H
+use Rattle.crossbeam_epoch.specs.world.History.{Mark, WasDeferred, began}
+use Rattle.crossbeam_epoch.specs.world.Reach.{Act, Quiet, Marked, GivenBack, with_act}
+use Rattle.crossbeam_epoch.specs.world.Machine.{State, place}
 use Rattle.congee.specs.declared.protocol.machine.Machine.{Machine}
 use Rattle.congee.specs.declared.protocol.phase.Phase.{Phase}
 use Rattle.congee.specs.declared.protocol.phase.Phase.TheVariants.{Ended}

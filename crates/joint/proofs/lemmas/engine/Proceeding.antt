@@ -9,9 +9,9 @@ use Rattle.crossbeam_epoch.specs.declared.world.report.Op.{Op as CollectorOp}
 use Rattle.crossbeam_epoch.specs.declared.world.report.Outcome.{Outcome as CollectorOutcome}
 use Rattle.crossbeam_epoch.specs.declared.world.report.Outcome.TheVariants as collector_outcome
 use Rattle.crossbeam_epoch.specs.declared.world.report.Report.{Report as Collection}
-use Rattle.crossbeam_epoch.specs.World.Machine.{State, place}
-use Rattle.crossbeam_epoch.specs.World.Progress.{Begins, refusal}
-use Rattle.crossbeam_epoch.specs.World.Steps.{begin_fault, called_in, when}
+use Rattle.crossbeam_epoch.specs.world.Machine.{State, place}
+use Rattle.crossbeam_epoch.specs.world.Progress.{Begins, refusal}
+use Rattle.crossbeam_epoch.specs.world.Steps.{begin_fault, called_in, when}
 use Rattle.congee.specs.declared.protocol.machine.Machine.{Machine}
 use Rattle.congee.specs.declared.protocol.op.Op.{Op as Point}
 use Rattle.congee.specs.declared.protocol.op.Op.TheVariants as point

@@ -1,8 +1,8 @@
 -- What is in reach in a state was in reach at a moment of its history.
 use Rattle.std.proofs.Common.{List, [], ◌∷◌, inl, inr}
 use Rattle.crossbeam_epoch.specs.declared.names.Name.{Name}
-use Rattle.crossbeam_epoch.specs.World.Machine.{State}
-use Rattle.crossbeam_epoch.specs.World.Reach.{Moment, InReach, WasIn, WasLive, EntersLive, links_of, IsNow}
+use Rattle.crossbeam_epoch.specs.world.Machine.{State}
+use Rattle.crossbeam_epoch.specs.world.Reach.{Moment, InReach, WasIn, WasLive, EntersLive, links_of, IsNow}
 use Rattle.joint.specs.engine.Laws.{CellLaws}
 
 -- the name is in reach from the roots of a state

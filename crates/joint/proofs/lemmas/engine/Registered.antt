@@ -5,8 +5,8 @@ use Rattle.std.proofs.lemmas.Bool.{cases_eq}
 use Rattle.std.proofs.lemmas.List.{length-set, get_or-set_same, get_or-set_other}
 use Rattle.crossbeam_epoch.specs.declared.names.Name.{Name}
 use Rattle.crossbeam_epoch.specs.declared.world.participant.Participant.{Participant}
-use Rattle.crossbeam_epoch.specs.World.Machine.{State, blank, place, registered}
-use Rattle.crossbeam_epoch.specs.World.Reach.{Act, Quiet, Marked, GivenBack, Moment, moment, HasMoments}
+use Rattle.crossbeam_epoch.specs.world.Machine.{State, blank, place, registered}
+use Rattle.crossbeam_epoch.specs.world.Reach.{Act, Quiet, Marked, GivenBack, Moment, moment, HasMoments}
 use Rattle.congee.specs.declared.protocol.machine.Machine.{Machine}
 use Rattle.joint.specs.declared.engine.in_flight.InFlight.{InFlight}
 use Rattle.joint.specs.declared.engine.in_flight.InFlight.TheVariants.{Idle, Collecting, Reserving, Securing, Walking}

@@ -12,9 +12,9 @@ use Rattle.crossbeam_epoch.specs.declared.world.report.Op.TheVariants.{Secure}
 use Rattle.crossbeam_epoch.specs.declared.world.report.Outcome.{Outcome}
 use Rattle.crossbeam_epoch.specs.declared.world.report.Outcome.TheVariants.{Running, Done, Refused}
 use Rattle.crossbeam_epoch.specs.declared.world.report.Report.{Report}
-use Rattle.crossbeam_epoch.specs.World.Machine.{State, blank, place, with_place}
-use Rattle.crossbeam_epoch.specs.World.Progress.{Begins, Empties, refusal}
-use Rattle.crossbeam_epoch.specs.World.Steps.{after, begin_fault, begun_at, called_in}
+use Rattle.crossbeam_epoch.specs.world.Machine.{State, blank, place, with_place}
+use Rattle.crossbeam_epoch.specs.world.Progress.{Begins, Empties, refusal}
+use Rattle.crossbeam_epoch.specs.world.Steps.{after, begin_fault, begun_at, called_in}
 use Rattle.congee.specs.declared.protocol.machine.Machine.{Machine}
 use Rattle.congee.specs.declared.protocol.op.Op.{Op}
 use Rattle.joint.specs.declared.engine.in_flight.InFlight.{InFlight}

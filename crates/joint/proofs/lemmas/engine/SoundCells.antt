@@ -5,12 +5,12 @@ use Rattle.std.specs.Prelude.{Option, None, Some, is_some, slice_get}
 use Rattle.std.specs.List.{Contains, All}
 use Rattle.std.proofs.lemmas.List.Elements.{All-contains}
 use Rattle.crossbeam_epoch.specs.declared.names.Name.{Name}
-use Rattle.crossbeam_epoch.specs.World.Machine.{State, place, with_store}
-use Rattle.crossbeam_epoch.specs.World.History.{Mark, began, WasDeferred}
-use Rattle.crossbeam_epoch.specs.World.Store.{Store, value_at, was_given}
-use Rattle.crossbeam_epoch.specs.World.Progress.{Orderly}
-use Rattle.crossbeam_epoch.specs.World.Fits.{Fits}
-use Rattle.crossbeam_epoch.specs.World.Reach.{Act, Quiet, Marked, GivenBack, Moment, marks_of, IsIn, WasIn, Visible, IsCareful, moment, HasMoments}
+use Rattle.crossbeam_epoch.specs.world.Machine.{State, place, with_store}
+use Rattle.crossbeam_epoch.specs.world.History.{Mark, began, WasDeferred}
+use Rattle.crossbeam_epoch.specs.world.Store.{Store, value_at, was_given}
+use Rattle.crossbeam_epoch.specs.world.Progress.{Orderly}
+use Rattle.crossbeam_epoch.specs.world.Fits.{Fits}
+use Rattle.crossbeam_epoch.specs.world.Reach.{Act, Quiet, Marked, GivenBack, Moment, marks_of, IsIn, WasIn, Visible, IsCareful, moment, HasMoments}
 use Rattle.congee.specs.declared.protocol.machine.Machine.{Machine}
 use Rattle.congee.specs.declared.protocol.machine.Move.{Move}
 use Rattle.congee.specs.Heap.{Node, Below, Stands}

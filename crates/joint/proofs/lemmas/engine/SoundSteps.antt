@@ -4,9 +4,9 @@ use Rattle.std.proofs.Math.ListN.{set}
 use Rattle.std.specs.Prelude.{Option, None, Some, is_some, slice_get}
 use Rattle.std.specs.List.{Contains}
 use Rattle.crossbeam_epoch.specs.declared.names.Name.{Name}
-use Rattle.crossbeam_epoch.specs.World.Machine.{State, place, with_store}
-use Rattle.crossbeam_epoch.specs.World.Store.{Store}
-use Rattle.crossbeam_epoch.specs.World.Reach.{Quiet, Moment, WasIn, marks_of, moment}
+use Rattle.crossbeam_epoch.specs.world.Machine.{State, place, with_store}
+use Rattle.crossbeam_epoch.specs.world.Store.{Store}
+use Rattle.crossbeam_epoch.specs.world.Reach.{Quiet, Moment, WasIn, marks_of, moment}
 use Rattle.congee.specs.declared.forms.base_node.NodeType.{NodeType}
 use Rattle.congee.specs.declared.protocol.store.Refusal.{Refusal}
 use Rattle.congee.specs.declared.protocol.phase.Placement.{Placement}

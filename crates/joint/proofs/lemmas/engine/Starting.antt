@@ -5,7 +5,7 @@ use Rattle.std.specs.Prelude.{Some, is_some, length, slice_get}
 use Rattle.std.proofs.lemmas.List.{length-set}
 use Rattle.std.proofs.lemmas.Option.{slice_get_within}
 use Rattle.crossbeam_epoch.specs.declared.world.participant.Phase.TheVariants as collector_phase
-use Rattle.crossbeam_epoch.specs.World.Machine.{place}
+use Rattle.crossbeam_epoch.specs.world.Machine.{place}
 use Rattle.congee.specs.declared.protocol.machine.Machine.{Machine}
 use Rattle.congee.specs.declared.protocol.op.Op.{Op}
 use Rattle.congee.specs.declared.protocol.op.Op.TheVariants.{Get, Insert, Remove, ComputePresent, ComputeInsert, Exchange, Range, RangeInclusive}

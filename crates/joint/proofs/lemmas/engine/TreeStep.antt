@@ -5,10 +5,10 @@ use Rattle.std.specs.Prelude.{Option, None, Some, is_some, length, slice_get}
 use Rattle.std.proofs.lemmas.List.{length-set}
 use Rattle.std.specs.List.{Contains}
 use Rattle.judge.specs.declared.journal.Reply.{Reply}
-use Rattle.crossbeam_epoch.specs.World.History.{Mark, WasDeferred}
-use Rattle.crossbeam_epoch.specs.World.Machine.{State, place, with_store}
-use Rattle.crossbeam_epoch.specs.World.Reach.{marks_of, WasIn}
-use Rattle.crossbeam_epoch.specs.World.Store.{Store, value_at}
+use Rattle.crossbeam_epoch.specs.world.History.{Mark, WasDeferred}
+use Rattle.crossbeam_epoch.specs.world.Machine.{State, place, with_store}
+use Rattle.crossbeam_epoch.specs.world.Reach.{marks_of, WasIn}
+use Rattle.crossbeam_epoch.specs.world.Store.{Store, value_at}
 use Rattle.congee.specs.declared.protocol.run.Step.{Step}
 use Rattle.congee.specs.declared.protocol.machine.Machine.{Machine}
 use Rattle.congee.specs.declared.protocol.machine.Move.{Move}

@@ -3,8 +3,8 @@ use Rattle.std.proofs.Common.{◌≡◌, ℕ, Bool, List, [], ◌++◌, append-n
 use Rattle.std.specs.Prelude.{Option, None, Some, length, take, drop, slice_get}
 use Rattle.std.proofs.lemmas.List.{take_all, drop_all}
 use Rattle.crossbeam_epoch.specs.declared.bag.Work.TheVariants.{Remove}
-use Rattle.crossbeam_epoch.specs.World.Machine.{deferred, with_store}
-use Rattle.crossbeam_epoch.specs.World.Store.{Store}
+use Rattle.crossbeam_epoch.specs.world.Machine.{deferred, with_store}
+use Rattle.crossbeam_epoch.specs.world.Store.{Store}
 use Rattle.congee.specs.declared.protocol.run.Step.{Step}
 use Rattle.congee.specs.declared.protocol.machine.Machine.{Machine}
 use Rattle.congee.specs.declared.protocol.machine.Move.{Move}

@@ -5,12 +5,12 @@ use Rattle.std.proofs.lemmas.Bool.{cases_eq}
 use Rattle.std.proofs.lemmas.Bool.Decides.{nat_tests}
 use Rattle.std.proofs.lemmas.List.{length-set, length_push, get_or-set_same, get_or-set_other}
 use Rattle.crossbeam_epoch.specs.declared.names.Name.{Name}
-use Rattle.crossbeam_epoch.specs.World.Machine.{State}
-use Rattle.crossbeam_epoch.specs.World.Progress.{Orderly, Moves, Empties as EmptiesBy}
+use Rattle.crossbeam_epoch.specs.world.Machine.{State}
+use Rattle.crossbeam_epoch.specs.world.Progress.{Orderly, Moves, Empties as EmptiesBy}
 use Rattle.crossbeam_epoch.specs.declared.world.report.Event.{Event}
 use Rattle.crossbeam_epoch.specs.declared.world.report.Report.{Report}
-use Rattle.crossbeam_epoch.specs.World.Steps.{IsReport, after}
-use Rattle.crossbeam_epoch.specs.World.Store.{Store, Sets, cell_at, value_at, was_given, placed, emptied}
+use Rattle.crossbeam_epoch.specs.world.Steps.{IsReport, after}
+use Rattle.crossbeam_epoch.specs.world.Store.{Store, Sets, cell_at, value_at, was_given, placed, emptied}
 use Rattle.congee.specs.declared.forms.base_node.NodeType.{NodeType}
 use Rattle.congee.specs.declared.forms.base_node.NodeType.TheVariants.{N4, N16, N48, N256}
 use Rattle.congee.specs.protocol.Events.{BackGives, NewNode, places}

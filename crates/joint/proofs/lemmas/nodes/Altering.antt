@@ -8,7 +8,7 @@ use Rattle.std.proofs.lemmas.List.Sums.{sum_by-set}
 use Rattle.std.proofs.Math.ListN.{length-set}
 use Rattle.crossbeam_epoch.specs.declared.world.cells.Cell.{Cell}
 use Rattle.crossbeam_epoch.specs.declared.names.Name.{Name}
-use Rattle.crossbeam_epoch.specs.World.Store.{Store, Sets, fresh, cell_at, value_in, value_at, was_given, replaced}
+use Rattle.crossbeam_epoch.specs.world.Store.{Store, Sets, fresh, cell_at, value_in, value_at, was_given, replaced}
 use Rattle.joint.specs.nodes.Altering.{Alters, Exchanges}
 use Rattle.joint.specs.nodes.Nodes.{of_value, of_cell, total}
 

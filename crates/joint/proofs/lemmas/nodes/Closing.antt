@@ -1,8 +1,8 @@
 -- How many workers are registered.
 use Rattle.std.proofs.Common.{◌≡◌, ℕ, zero, suc, ◌≤◌, ◌+◌, Bool, true, false, ap, arith}
 use Rattle.std.specs.Prelude.{if◌then◌else◌}
-use Rattle.crossbeam_epoch.specs.World.Ending.{registered_below, registered_in}
-use Rattle.crossbeam_epoch.specs.World.Machine.{State, place}
+use Rattle.crossbeam_epoch.specs.world.Ending.{registered_below, registered_in}
+use Rattle.crossbeam_epoch.specs.world.Machine.{State, place}
 use Rattle.joint.specs.nodes.Nodes.{Nodes, frame}
 
 one_more : (b : Bool) (k n : ℕ) → k ≤ n → k + (if b then 1 else 0) ≤ suc n

@@ -3,8 +3,8 @@ use Rattle.std.proofs.Common.{◌≡◌, ◌≢◌, ℕ, ◌+◌, Bool, refl, sy
 use Rattle.std.specs.Prelude.{Option, None, Some, Box, if◌then◌else◌}
 use Rattle.std.specs.declared.alloc.Global.{Global}
 use Rattle.crossbeam_epoch.specs.declared.names.Name.{Name}
-use Rattle.crossbeam_epoch.specs.World.Machine.{State, with_store}
-use Rattle.crossbeam_epoch.specs.World.Store.{Store, value_at, was_given}
+use Rattle.crossbeam_epoch.specs.world.Machine.{State, with_store}
+use Rattle.crossbeam_epoch.specs.world.Store.{Store, value_at, was_given}
 use Rattle.std.specs.Ordering.{nat_cmp}
 use Rattle.std.specs.FinMap as map
 use Rattle.congee.specs.forms.Forms.{children_of}

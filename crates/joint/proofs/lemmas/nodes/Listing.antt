@@ -8,7 +8,7 @@ use Rattle.std.proofs.lemmas.List.Kept.{AllPairs-cons, AllPairs-filter}
 use Rattle.std.proofs.lemmas.List.Sums.{sum_by-cons}
 use Rattle.crossbeam_epoch.specs.declared.world.cells.Cell.{Cell}
 use Rattle.crossbeam_epoch.specs.declared.names.Name.{Name}
-use Rattle.crossbeam_epoch.specs.World.Store.{Store, fresh, cell_at, value_at, was_given}
+use Rattle.crossbeam_epoch.specs.world.Store.{Store, fresh, cell_at, value_at, was_given}
 use Rattle.congee.specs.Heap.{Node}
 use Rattle.joint.specs.declared.nodes.slot.Slot.{Slot}
 use Rattle.joint.specs.nodes.Nodes.{Nodes, nodes, of_value, of_cell, total, size}

@@ -6,7 +6,7 @@ use Rattle.std.proofs.lemmas.Bool.Decides.{nat_tests}
 use Rattle.std.proofs.lemmas.List.{get_or_past}
 use Rattle.std.proofs.Math.Nat.{mul-le-mul}
 use Rattle.crossbeam_epoch.specs.declared.names.Name.{Name}
-use Rattle.crossbeam_epoch.specs.World.Store.{Store, fresh, cell_at, value_at, was_given}
+use Rattle.crossbeam_epoch.specs.world.Store.{Store, fresh, cell_at, value_at, was_given}
 use Rattle.joint.specs.declared.nodes.counts.Counts.{Counts}
 use Rattle.joint.specs.declared.nodes.slot.Slot.{Slot}
 use Rattle.joint.specs.nodes.Nodes.{Nodes, nodes, IsKept}

@@ -2,9 +2,9 @@
 use Rattle.std.proofs.Common.{◌≡◌, ◌≢◌, ℕ, ◌+◌, Bool, true, false, refl, sym, ◌∙◌, ap, subst, inl, inr, arith}
 use Rattle.std.specs.Prelude.{Option, None, Some, is_some, if◌then◌else◌}
 use Rattle.crossbeam_epoch.specs.declared.names.Name.{Name}
-use Rattle.crossbeam_epoch.specs.World.Machine.{State, with_store}
-use Rattle.crossbeam_epoch.specs.World.Progress.{Orderly}
-use Rattle.crossbeam_epoch.specs.World.Store.{Store, value_at, was_given, replaced}
+use Rattle.crossbeam_epoch.specs.world.Machine.{State, with_store}
+use Rattle.crossbeam_epoch.specs.world.Progress.{Orderly}
+use Rattle.crossbeam_epoch.specs.world.Store.{Store, value_at, was_given, replaced}
 use Rattle.congee.specs.protocol.Events.{SameBut, ChangeGives, hung, weight}
 use Rattle.congee.specs.Heap.{Node, Holds, Nothing, Stands}
 use Rattle.congee.specs.declared.forms.child.Child.{Child}

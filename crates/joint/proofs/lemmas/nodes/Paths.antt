@@ -4,8 +4,8 @@ use Rattle.std.specs.Prelude.{Option, Some, None}
 use Rattle.std.specs.List.{Contains}
 use Rattle.crossbeam_epoch.specs.declared.names.Name.{Name}
 use Rattle.crossbeam_epoch.specs.declared.names.Ptr.{Ptr}
-use Rattle.crossbeam_epoch.specs.World.Store.{Store}
-use Rattle.crossbeam_epoch.specs.World.Reach.{InReach, from_root, from_cell, links_of}
+use Rattle.crossbeam_epoch.specs.world.Store.{Store}
+use Rattle.crossbeam_epoch.specs.world.Reach.{InReach, from_root, from_cell, links_of}
 use Rattle.congee.specs.Heap.{Node, Below}
 use Rattle.congee.specs.protocol.Handing.{Leads, InTree}
 use Rattle.joint.specs.Names.{number}

@@ -8,11 +8,11 @@ use Rattle.crossbeam_epoch.specs.declared.bag.Work.{Work}
 use Rattle.crossbeam_epoch.specs.declared.fault.Fault.{Fault}
 use Rattle.crossbeam_epoch.specs.declared.world.participant.Participant.{Participant}
 use Rattle.crossbeam_epoch.specs.declared.bag.Sealed.{Sealed}
-use Rattle.crossbeam_epoch.specs.World.Fits.{HandFits}
-use Rattle.crossbeam_epoch.specs.World.Machine.{State, place, blank, registered, deferred, deferred_anew, after_deferral}
-use Rattle.crossbeam_epoch.specs.World.Progress.{Orderly, KeepsCalls}
+use Rattle.crossbeam_epoch.specs.world.Fits.{HandFits}
+use Rattle.crossbeam_epoch.specs.world.Machine.{State, place, blank, registered, deferred, deferred_anew, after_deferral}
+use Rattle.crossbeam_epoch.specs.world.Progress.{Orderly, KeepsCalls}
 use Rattle.crossbeam_epoch.specs.declared.names.Name.{Name}
-use Rattle.crossbeam_epoch.specs.World.Reach.{Act, Moment, moment, HasMoments, NextMoment}
+use Rattle.crossbeam_epoch.specs.world.Reach.{Act, Moment, moment, HasMoments, NextMoment}
 
 -- what holds of each place of a list, and of one that is written, holds of each place then
 each_set : {A : Type 0} (Q : A → Type 0) (xs : List A) (i : ℕ) (x d : A) → Q x → ((j : ℕ) → Q (get_or xs j d)) → (j : ℕ) → Q (get_or (slice_set xs i x) j d)

@@ -8,7 +8,7 @@ use Rattle.std.proofs.lemmas.List.{length-set, length_push, get_or-set_same, get
 use Rattle.std.proofs.lemmas.List.Sums.{sum_by-set, sum_by_push, sum_by-cons}
 use Rattle.crossbeam_epoch.specs.declared.world.cells.Cell.{Cell}
 use Rattle.crossbeam_epoch.specs.declared.names.Name.{Name}
-use Rattle.crossbeam_epoch.specs.World.Store.{Store, Sets, IsNext, fresh, cell_at, value_at, placed, emptied}
+use Rattle.crossbeam_epoch.specs.world.Store.{Store, Sets, IsNext, fresh, cell_at, value_at, placed, emptied}
 use Rattle.congee.specs.declared.forms.base_node.Node.{Node as Form}
 use Rattle.congee.specs.declared.forms.base_node.NodeType.{NodeType}
 use Rattle.congee.specs.declared.forms.base_node.NodeType.TheVariants.{N4, N16, N48, N256}

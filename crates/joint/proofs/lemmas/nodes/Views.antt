@@ -3,8 +3,8 @@ use Rattle.std.proofs.Common.{◌≡◌, ◌<◌, arith, ℕ, Bool, true, false,
 use Rattle.std.specs.Prelude.{Option, None, Some, is_some}
 use Rattle.std.specs.List.{Contains}
 use Rattle.crossbeam_epoch.specs.declared.names.Name.{Name}
-use Rattle.crossbeam_epoch.specs.World.Store.{Store, value_at, was_given}
-use Rattle.crossbeam_epoch.specs.World.Reach.{links_in}
+use Rattle.crossbeam_epoch.specs.world.Store.{Store, value_at, was_given}
+use Rattle.crossbeam_epoch.specs.world.Reach.{links_in}
 use Rattle.congee.specs.Heap.{Node, Below, Stands}
 use Rattle.joint.specs.Names.{number}
 use Rattle.joint.specs.nodes.Heap.{IsView, node_at, heap_of}

@@ -12,8 +12,8 @@ use Rattle.crossbeam_epoch.specs.declared.world.report.Op.{Op as CollectorOp}
 use Rattle.crossbeam_epoch.specs.declared.world.report.Op.TheVariants as collector_op
 use Rattle.crossbeam_epoch.specs.declared.world.report.Outcome.{Outcome as CollectorOutcome}
 use Rattle.crossbeam_epoch.specs.declared.world.report.Outcome.TheVariants as collector_outcome
-use Rattle.crossbeam_epoch.specs.World.Machine.{State, place}
-use Rattle.crossbeam_epoch.specs.World.Steps as collector
+use Rattle.crossbeam_epoch.specs.world.Machine.{State, place}
+use Rattle.crossbeam_epoch.specs.world.Steps as collector
 use Rattle.congee.specs.declared.protocol.machine.Noise.{Noise}
 use Rattle.congee.specs.declared.protocol.machine.Outcome.{Outcome as Moved}
 use Rattle.congee.specs.declared.protocol.machine.Outcome.TheVariants as moved

@@ -10,9 +10,9 @@ use Rattle.crossbeam_epoch.specs.declared.bag.Deferral.{Deferral}
 use Rattle.crossbeam_epoch.specs.declared.bag.Sealed.{Sealed}
 use Rattle.crossbeam_epoch.specs.declared.names.Name.{Name}
 use Rattle.crossbeam_epoch.specs.declared.world.participant.Participant.{Participant}
-use Rattle.crossbeam_epoch.specs.World.Fits.{at_place, in_bag, job_count, one, weight}
-use Rattle.crossbeam_epoch.specs.World.Machine.{State, name_of}
-use Rattle.crossbeam_epoch.specs.World.Sealing.{bit, counts_name}
+use Rattle.crossbeam_epoch.specs.world.Fits.{at_place, in_bag, job_count, one, weight}
+use Rattle.crossbeam_epoch.specs.world.Machine.{State, name_of}
+use Rattle.crossbeam_epoch.specs.world.Sealing.{bit, counts_name}
 use Rattle.congee.specs.protocol.Handing.{is_handed_over}
 use Rattle.joint.specs.engine.Filed.{IsFiled, others, removes}
 use Rattle.joint.specs.nodes.Nodes.{Nodes, nodes}

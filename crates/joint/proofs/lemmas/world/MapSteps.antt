@@ -19,9 +19,9 @@ use Rattle.crossbeam_epoch.specs.declared.world.report.Op.TheVariants.{Secure}
 use Rattle.crossbeam_epoch.specs.declared.world.report.Outcome.{Outcome as CollectorOutcome}
 use Rattle.crossbeam_epoch.specs.declared.world.report.Outcome.TheVariants as collector_outcome
 use Rattle.crossbeam_epoch.specs.declared.world.report.Report.{Report as Collection}
-use Rattle.crossbeam_epoch.specs.World.Machine.{State, place, blank}
-use Rattle.crossbeam_epoch.specs.World.Progress.{IsOn, stage as stage_of, comes_by}
-use Rattle.crossbeam_epoch.specs.World.Steps.{IsOutcome, event_fault, fault as fault_of}
+use Rattle.crossbeam_epoch.specs.world.Machine.{State, place, blank}
+use Rattle.crossbeam_epoch.specs.world.Progress.{IsOn, stage as stage_of, comes_by}
+use Rattle.crossbeam_epoch.specs.world.Steps.{IsOutcome, event_fault, fault as fault_of}
 use Rattle.congee.specs.declared.protocol.machine.Machine.{Machine}
 use Rattle.congee.specs.declared.protocol.machine.Move.{Move}
 use Rattle.congee.specs.declared.protocol.machine.Noise.{Noise}

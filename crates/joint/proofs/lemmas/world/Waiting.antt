@@ -20,7 +20,7 @@ use Rattle.congee.proofs.Laws.{IsTaken, made_known, taken_known}
 use Rattle.joint.specs.declared.id.Id.{Id}
 use Rattle.joint.specs.declared.nodes.slot.Slot.{Slot}
 use Rattle.crossbeam_epoch.specs.declared.names.Name.{Name}
-use Rattle.crossbeam_epoch.specs.World.Store.{value_at}
+use Rattle.crossbeam_epoch.specs.world.Store.{value_at}
 use Rattle.congee.specs.forms.Forms.{size_of}
 use Rattle.congee.specs.protocol.State.{taken}
 use Rattle.joint.specs.declared.engine.in_flight.InFlight.{InFlight}

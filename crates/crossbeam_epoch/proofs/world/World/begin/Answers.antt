@@ -1,5 +1,5 @@
 use Rattle.std.proofs.Common.{ap, ◌∙◌}
-use Rattle.crossbeam_epoch.specs.World.Steps.{begin_fault, begun_at, outcome_or, place_or}
+use Rattle.crossbeam_epoch.specs.world.Steps.{begin_fault, begun_at, outcome_or, place_or}
 use Rattle.crossbeam_epoch.proofs.lemmas.world.Held.{place_read, placed_at}
 use Rattle.crossbeam_epoch.proofs.lemmas.world.Within.{worker_within}
 use Rattle.crossbeam_epoch.proofs.world.World.begin.Goals as goal

@@ -1,4 +1,4 @@
-use Rattle.crossbeam_epoch.specs.World.Calls.{IsGoing}
+use Rattle.crossbeam_epoch.specs.world.Calls.{IsGoing}
 use Rattle.crossbeam_epoch.proofs.world.World.call.Given as goal
 
 abbrev pub invariant-loop : goal.invariant-loop

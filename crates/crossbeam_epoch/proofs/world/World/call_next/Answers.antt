@@ -1,6 +1,6 @@
 use Rattle.std.proofs.Common.{sym, ap, ◌∙◌}
-use Rattle.crossbeam_epoch.specs.World.Machine.{after_call}
-use Rattle.crossbeam_epoch.specs.World.Steps.{outcome_at}
+use Rattle.crossbeam_epoch.specs.world.Machine.{after_call}
+use Rattle.crossbeam_epoch.specs.world.Steps.{outcome_at}
 use Rattle.crossbeam_epoch.specs.declared.world.participant.Phase.TheVariants as P
 use Rattle.crossbeam_epoch.proofs.lemmas.world.Held.{called_none, called_first, written_at}
 use Rattle.crossbeam_epoch.proofs.lemmas.world.Within.{worker_within}

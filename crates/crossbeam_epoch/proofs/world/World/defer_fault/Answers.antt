@@ -1,5 +1,5 @@
 use Rattle.std.proofs.Common.{rules, ◌≡◌, ◌<◌, ◌^◌, ◌-◌, true, length, subst, sym, ◌∙◌}
-use Rattle.crossbeam_epoch.specs.World.Machine.{place}
+use Rattle.crossbeam_epoch.specs.world.Machine.{place}
 use Rattle.crossbeam_epoch.proofs.lemmas.world.Held.{fault_known, fault_unknown}
 use Rattle.crossbeam_epoch.proofs.world.World.defer_fault.Goals as goal
 

@@ -1,6 +1,6 @@
 use Rattle.std.proofs.Common.{◌≡◌, ℕ, ◌-◌, ◌≤◌, ap, ◌∙◌, length, arith}
 use Rattle.std.specs.Prelude.{min}
-use Rattle.crossbeam_epoch.specs.World.Ending.{registered_in, jobs_of}
+use Rattle.crossbeam_epoch.specs.world.Ending.{registered_in, jobs_of}
 use Rattle.crossbeam_epoch.proofs.lemmas.world.Endings.{ended_count, tells_ended}
 use Rattle.crossbeam_epoch.proofs.world.World.end.Goals as goal
 

@@ -1,5 +1,5 @@
 use Rattle.std.proofs.Common.{sym, ap, ◌∙◌}
-use Rattle.crossbeam_epoch.specs.World.Machine.{ends_advance}
+use Rattle.crossbeam_epoch.specs.world.Machine.{ends_advance}
 use Rattle.crossbeam_epoch.proofs.lemmas.world.Held.{place_found, none_found}
 use Rattle.crossbeam_epoch.proofs.world.World.ends_at.Goals as goal
 

@@ -1,5 +1,5 @@
 use Rattle.std.proofs.Common.{◌≡◌, ℕ, ◌<◌, true, get_or}
-use Rattle.crossbeam_epoch.specs.World.Machine.{blank}
+use Rattle.crossbeam_epoch.specs.world.Machine.{blank}
 use Rattle.crossbeam_epoch.proofs.world.World.free_place.Given as goal
 
 abbrev pub invariant-loop-n : goal.invariant-loop-n

@@ -1,6 +1,6 @@
 use Rattle.std.proofs.Common.{◌≡◌, ℕ, refl, ◌∙◌, ap, []}
 use Rattle.std.proofs.lemmas.List.{get_or-set_same}
-use Rattle.crossbeam_epoch.specs.World.Machine.{place, in_phase, published, relooked, repinned, secured, blank, queued, released}
+use Rattle.crossbeam_epoch.specs.world.Machine.{place, in_phase, published, relooked, repinned, secured, blank, queued, released}
 use Rattle.crossbeam_epoch.specs.declared.world.participant.Phase.TheVariants as P
 use Rattle.crossbeam_epoch.proofs.lemmas.world.Goes.{goes_to, goes_queueing}
 use Rattle.crossbeam_epoch.proofs.world.World.go.Goals as goal

@@ -1,6 +1,6 @@
 use Rattle.std.proofs.Common.{not, sym, ap, ◌∙◌, length}
 use Rattle.std.specs.Prelude.{◌==◌, ◌&&◌}
-use Rattle.crossbeam_epoch.specs.World.Machine.{place}
+use Rattle.crossbeam_epoch.specs.world.Machine.{place}
 use Rattle.crossbeam_epoch.proofs.lemmas.world.Held.{place_read}
 use Rattle.crossbeam_epoch.proofs.lemmas.world.Within.{worker_within}
 use Rattle.crossbeam_epoch.proofs.world.World.has_place.Goals as goal

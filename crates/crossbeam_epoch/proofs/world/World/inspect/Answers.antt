@@ -1,5 +1,5 @@
 use Rattle.std.proofs.Common.{refl, ap}
-use Rattle.crossbeam_epoch.specs.World.Machine.{inspection}
+use Rattle.crossbeam_epoch.specs.world.Machine.{inspection}
 use Rattle.crossbeam_epoch.proofs.lemmas.world.Held.{placed_at}
 use Rattle.crossbeam_epoch.proofs.world.World.inspect.Goals as goal
 

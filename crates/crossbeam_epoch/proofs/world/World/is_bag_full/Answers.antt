@@ -1,5 +1,5 @@
 use Rattle.std.proofs.Common.{◌≡◌, ◌≤◌, ◌==◌, ◌∙◌, ap, subst, length}
-use Rattle.crossbeam_epoch.specs.World.Machine.{place}
+use Rattle.crossbeam_epoch.specs.world.Machine.{place}
 use Rattle.crossbeam_epoch.proofs.lemmas.world.Held.{place_read, has_place, is_full_at}
 use Rattle.crossbeam_epoch.proofs.world.World.is_bag_full.Goals as goal
 

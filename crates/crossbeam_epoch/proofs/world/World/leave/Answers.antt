@@ -1,5 +1,5 @@
 use Rattle.std.proofs.Common.{refl, sym, ap, ◌-◌, ◌∙◌, inl, inr, ◌++◌, ◌∷◌, []}
-use Rattle.crossbeam_epoch.specs.World.Machine.{blank}
+use Rattle.crossbeam_epoch.specs.world.Machine.{blank}
 use Rattle.crossbeam_epoch.specs.declared.world.participant.Phase.TheVariants as P
 use Rattle.crossbeam_epoch.proofs.lemmas.world.Held.{placed_beside, queued_at}
 use Rattle.crossbeam_epoch.proofs.lemmas.world.Within.{room_made, when_ok, when_err, worker_within}

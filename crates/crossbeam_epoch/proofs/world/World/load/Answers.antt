@@ -1,6 +1,6 @@
 use Rattle.std.proofs.Common.{subst, ◌∙◌}
 use Rattle.std.proofs.lemmas.Option.{slice_get_read}
-use Rattle.crossbeam_epoch.specs.World.Reach.{InSight}
+use Rattle.crossbeam_epoch.specs.world.Reach.{InSight}
 use Rattle.crossbeam_epoch.proofs.lemmas.world.Reaches.{root_sight}
 use Rattle.crossbeam_epoch.proofs.world.World.load.Goals as goal
 

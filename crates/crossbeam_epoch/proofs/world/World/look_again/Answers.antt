@@ -1,6 +1,6 @@
 use Rattle.std.proofs.Common.{◌≡◌, ap, ◌∙◌}
-use Rattle.crossbeam_epoch.specs.World.Machine.{relooked, place}
-use Rattle.crossbeam_epoch.specs.World.Steps.{outcome_at}
+use Rattle.crossbeam_epoch.specs.world.Machine.{relooked, place}
+use Rattle.crossbeam_epoch.specs.world.Steps.{outcome_at}
 use Rattle.crossbeam_epoch.proofs.lemmas.world.Held.{place_read, placed_at}
 use Rattle.crossbeam_epoch.proofs.lemmas.world.Within.{worker_within}
 use Rattle.crossbeam_epoch.proofs.world.World.look_again.Goals as goal

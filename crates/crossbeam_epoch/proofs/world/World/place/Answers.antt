@@ -1,5 +1,5 @@
 use Rattle.std.proofs.Common.{subst}
-use Rattle.crossbeam_epoch.specs.World.Store.{IsNext}
+use Rattle.crossbeam_epoch.specs.world.Store.{IsNext}
 use Rattle.crossbeam_epoch.proofs.lemmas.world.Told.{tells_placed, placed_new}
 use Rattle.crossbeam_epoch.proofs.world.World.place.Goals as goal
 use Rattle.crossbeam_epoch.proofs.world.World.place.Goals.{in-Ok, in-Err}

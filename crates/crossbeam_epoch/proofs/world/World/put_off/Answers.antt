@@ -1,7 +1,7 @@
 use Rattle.std.proofs.Common.{◌≡◌, refl, sym, ◌∙◌, length}
 use Rattle.crossbeam_epoch.specs.declared.fault.Fault.TheVariants.{Memory}
-use Rattle.crossbeam_epoch.specs.World.Machine.{place}
-use Rattle.crossbeam_epoch.specs.World.Steps.{defer_fault}
+use Rattle.crossbeam_epoch.specs.world.Machine.{place}
+use Rattle.crossbeam_epoch.specs.world.Steps.{defer_fault}
 use Rattle.crossbeam_epoch.proofs.lemmas.world.Held.{after_put, after_anew, fault_given, none_given}
 use Rattle.crossbeam_epoch.proofs.world.World.put_off.Goals as goal
 

@@ -1,5 +1,5 @@
 use Rattle.std.proofs.Common.{ap, ◌∙◌}
-use Rattle.crossbeam_epoch.specs.World.Steps.{quiet_fault}
+use Rattle.crossbeam_epoch.specs.world.Steps.{quiet_fault}
 use Rattle.crossbeam_epoch.proofs.lemmas.world.Held.{place_read}
 use Rattle.crossbeam_epoch.proofs.world.World.quiet_fault.Goals as goal
 

@@ -1,4 +1,4 @@
-use Rattle.crossbeam_epoch.specs.World.Reach.{marks_of}
+use Rattle.crossbeam_epoch.specs.world.Reach.{marks_of}
 use Rattle.crossbeam_epoch.proofs.lemmas.world.Rounds.{quiet_advances, quiet_seals, quiet_bags, quiet_empties}
 use Rattle.crossbeam_epoch.proofs.lemmas.world.Takings.{flush_takes}
 use Rattle.crossbeam_epoch.proofs.world.World.rounds.Goals as goal

@@ -1,7 +1,7 @@
 use Rattle.std.proofs.Common.{rules, ◌≡◌, ℕ, zero, suc, ◌+◌, ◌-◌, ◌<◌, ◌≤◌, arith, ap, sym, subst, ◌∙◌, ◌∷◌, [], ◌++◌, length, take, drop, vec_capacity, vec_len}
 use Rattle.std.specs.Prelude.{min}
 use Rattle.std.proofs.lemmas.List.{length_push, length-drop, drop-append-le, take-append-le}
-use Rattle.crossbeam_epoch.specs.World.Steps.{state_after, AreReports}
+use Rattle.crossbeam_epoch.specs.world.Steps.{state_after, AreReports}
 use Rattle.crossbeam_epoch.proofs.lemmas.world.Runs.{fits_run, run_more}
 use Rattle.crossbeam_epoch.proofs.lemmas.world.Logs.{shows_run}
 use Rattle.crossbeam_epoch.proofs.lemmas.world.Told.{tells_run}

@@ -1,5 +1,5 @@
 use Rattle.std.proofs.Common.{◌≡◌, ◌+◌, ◌<◌, ◌≤◌, length, take, drop, vec_capacity}
-use Rattle.crossbeam_epoch.specs.World.Steps.{state_after, AreReports}
+use Rattle.crossbeam_epoch.specs.world.Steps.{state_after, AreReports}
 use Rattle.crossbeam_epoch.proofs.world.World.run_into.Given as goal
 
 abbrev pub invariant-loop-step : goal.invariant-loop-step

@@ -2,8 +2,8 @@ use Rattle.std.proofs.Common.{◌≡◌, ℕ, ◌<◌, sym, ap, ◌∙◌, subst
 use Rattle.std.specs.Prelude.{slice_set}
 use Rattle.std.proofs.lemmas.List.{get_or_read}
 use Rattle.crossbeam_epoch.specs.declared.names.Ptr.{Ptr}
-use Rattle.crossbeam_epoch.specs.World.Machine.{State, null}
-use Rattle.crossbeam_epoch.specs.World.Roots.{with_tag_at}
+use Rattle.crossbeam_epoch.specs.world.Machine.{State, null}
+use Rattle.crossbeam_epoch.specs.world.Roots.{with_tag_at}
 use Rattle.crossbeam_epoch.proofs.world.World.set_tag.Goals as goal
 
 within : {A B : Type 0} (s v : State A B) (root n : ℕ) → v ≡ s → n ≡ length v.roots → root < length s.roots → root < n

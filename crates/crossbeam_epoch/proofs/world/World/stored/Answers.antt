@@ -1,8 +1,8 @@
 use Rattle.std.proofs.Common.{refl, sym, subst, List}
-use Rattle.crossbeam_epoch.specs.World.Fits.{Fits}
-use Rattle.crossbeam_epoch.specs.World.History.{Mark}
-use Rattle.crossbeam_epoch.specs.World.Machine.{with_store, with_roots}
-use Rattle.crossbeam_epoch.specs.World.Reach.{marks_of}
+use Rattle.crossbeam_epoch.specs.world.Fits.{Fits}
+use Rattle.crossbeam_epoch.specs.world.History.{Mark}
+use Rattle.crossbeam_epoch.specs.world.Machine.{with_store, with_roots}
+use Rattle.crossbeam_epoch.specs.world.Reach.{marks_of}
 use Rattle.crossbeam_epoch.proofs.lemmas.world.Progress.{orderly_beside}
 use Rattle.crossbeam_epoch.proofs.lemmas.world.Runs.{fits_store, fits_roots}
 use Rattle.crossbeam_epoch.proofs.lemmas.world.Told.{tells_act}

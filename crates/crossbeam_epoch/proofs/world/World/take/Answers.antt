@@ -1,10 +1,10 @@
 use Rattle.std.proofs.Common.{rules, ◌≡◌, ℕ, ◌+◌, ◌<◌, ◌≤◌, arith, Bool, true, false, sym, refl, ap, ◌∙◌, length, get_or}
 use Rattle.std.specs.Prelude.{nat_lt, ◌&&◌, if◌then◌else◌}
 use Rattle.std.proofs.lemmas.Bool.Decides.{nat_tests}
-use Rattle.crossbeam_epoch.specs.World.Machine.{State, in_phase, is_due, taken, took, with_place}
+use Rattle.crossbeam_epoch.specs.world.Machine.{State, in_phase, is_due, taken, took, with_place}
 use Rattle.crossbeam_epoch.specs.declared.world.participant.Participant.{Participant}
 use Rattle.crossbeam_epoch.specs.declared.world.participant.Phase.TheVariants as P
-use Rattle.crossbeam_epoch.specs.World.Steps.{outcome_at}
+use Rattle.crossbeam_epoch.specs.world.Steps.{outcome_at}
 use Rattle.crossbeam_epoch.proofs.lemmas.world.Held.{placed_at, took_first, written_at}
 use Rattle.crossbeam_epoch.proofs.lemmas.world.Within.{worker_within}
 use Rattle.crossbeam_epoch.proofs.world.World.take.Goals as goal

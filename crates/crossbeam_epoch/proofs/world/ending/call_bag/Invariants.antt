@@ -1,5 +1,5 @@
 use Rattle.std.proofs.Common.{◌≡◌, ◌-◌, length}
-use Rattle.crossbeam_epoch.specs.World.Ending.{after_jobs}
+use Rattle.crossbeam_epoch.specs.world.Ending.{after_jobs}
 use Rattle.crossbeam_epoch.proofs.world.ending.call_bag.Given as goal
 
 abbrev pub invariant-loop-jobs : goal.invariant-loop-jobs

@@ -1,5 +1,5 @@
 use Rattle.std.proofs.Common.{◌≡◌, ◌-◌, [], sym, ap, ◌∙◌, arith, length}
-use Rattle.crossbeam_epoch.specs.World.Ending.{jobs_of, after_jobs}
+use Rattle.crossbeam_epoch.specs.world.Ending.{jobs_of, after_jobs}
 use Rattle.crossbeam_epoch.proofs.lemmas.world.Endings.{bag_less, bag_after, fewer_bags, given_is}
 use Rattle.crossbeam_epoch.proofs.world.ending.call_bags.Goals as goal
 

@@ -1,5 +1,5 @@
 use Rattle.std.proofs.Common.{◌≡◌, ◌-◌, length}
-use Rattle.crossbeam_epoch.specs.World.Ending.{jobs_of, after_jobs}
+use Rattle.crossbeam_epoch.specs.world.Ending.{jobs_of, after_jobs}
 use Rattle.crossbeam_epoch.proofs.world.ending.call_bags.Given as goal
 
 abbrev pub invariant-loop-jobs : goal.invariant-loop-jobs

@@ -1,7 +1,7 @@
 use Rattle.joint.specs.engine.Log.{no_log}
 use Rattle.std.proofs.Common.{◌≡◌, refl, ◌∙◌, ap}
 use Rattle.std.specs.Prelude.{◌&&◌, is_some}
-use Rattle.crossbeam_epoch.specs.World.Machine.{place}
+use Rattle.crossbeam_epoch.specs.world.Machine.{place}
 use Rattle.joint.specs.declared.engine.in_flight.InFlight.TheVariants.{Idle}
 use Rattle.joint.proofs.lemmas.engine.Collecting.{call_inside, intact_at}
 use Rattle.joint.proofs.lemmas.engine.Reserving.{reserved}

@@ -2,7 +2,7 @@ use Rattle.std.proofs.Common.{◌≡◌, ◌<◌, ℕ, arith, length, refl, rule
 use Rattle.std.specs.Prelude.{Some, slice_get}
 use Rattle.std.specs.Vec.{vec_len}
 use Rattle.std.proofs.lemmas.Option.{slice_get_read}
-use Rattle.crossbeam_epoch.specs.World.Machine.{place}
+use Rattle.crossbeam_epoch.specs.world.Machine.{place}
 use Rattle.joint.specs.engine.Log.{no_log}
 use Rattle.joint.specs.declared.engine.in_flight.InFlight.TheVariants.{Collecting, Reserving, Securing}
 use Rattle.joint.specs.engine.Intact.{IsSecuring, is_reserving}

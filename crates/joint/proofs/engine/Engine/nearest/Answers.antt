@@ -1,6 +1,6 @@
 use Rattle.std.proofs.Common.{◌<◌, ℕ, false, length, refl, sym, ◌∙◌, ap, subst}
 use Rattle.std.specs.Prelude.{◌&&◌, None, Some, Ok, Err, is_some}
-use Rattle.crossbeam_epoch.specs.World.Machine.{place}
+use Rattle.crossbeam_epoch.specs.world.Machine.{place}
 use Rattle.joint.specs.declared.refusal.Refusal.TheVariants.{Count}
 use Rattle.joint.specs.engine.Log.{no_log}
 use Rattle.joint.specs.nodes.Nearest.{IsNearest}

@@ -1,5 +1,5 @@
 use Rattle.std.proofs.Common.{◌≡◌}
-use Rattle.crossbeam_epoch.specs.World.Ending.{registered_below}
+use Rattle.crossbeam_epoch.specs.world.Ending.{registered_below}
 use Rattle.joint.proofs.engine.Engine.registered.Given as goal
 
 abbrev pub invariant-loop-n : goal.invariant-loop-n

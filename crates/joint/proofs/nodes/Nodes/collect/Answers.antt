@@ -1,5 +1,5 @@
 use Rattle.std.proofs.Common.{arith, ◌∷◌, refl, ap, sym, ◌∙◌, subst}
-use Rattle.crossbeam_epoch.specs.World.Reach.{moment, HasMoments, step_act}
+use Rattle.crossbeam_epoch.specs.world.Reach.{moment, HasMoments, step_act}
 use Rattle.joint.specs.nodes.Nodes.{gone_by}
 use Rattle.joint.specs.nodes.Slots.{slot_names}
 use Rattle.joint.proofs.lemmas.nodes.Accounts.{moved, kept_same, unchanged_by, emptied_by, is_inside, standing_some, waits_some, bytes_some, charge_some, charged_less, kept_emptied}

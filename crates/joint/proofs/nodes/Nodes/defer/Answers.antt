@@ -1,11 +1,11 @@
 use Rattle.std.proofs.Common.{◌≡◌, refl, ap, sym, subst}
-use Rattle.crossbeam_epoch.specs.World.History.{Deferred}
-use Rattle.crossbeam_epoch.specs.World.Reach.{Quiet, Marked, HasMoments}
+use Rattle.crossbeam_epoch.specs.world.History.{Deferred}
+use Rattle.crossbeam_epoch.specs.world.Reach.{Quiet, Marked, HasMoments}
 use Rattle.joint.specs.nodes.Slots.{slot_names}
 use Rattle.std.specs.Prelude.{MatchResult, MatchOption, None, Some, length}
 use Rattle.crossbeam_epoch.specs.declared.fault.Fault.{Fault}
-use Rattle.crossbeam_epoch.specs.World.Machine.{place}
-use Rattle.crossbeam_epoch.specs.World.Steps.{destroy_fault}
+use Rattle.crossbeam_epoch.specs.world.Machine.{place}
+use Rattle.crossbeam_epoch.specs.world.Steps.{destroy_fault}
 use Rattle.joint.proofs.lemmas.nodes.Accounts.{kept_same}
 use Rattle.joint.proofs.lemmas.nodes.Registering.{deferred_orderly, deferred_store, told_at}
 use Rattle.joint.proofs.nodes.Nodes.defer.Goals as goal

@@ -1,6 +1,6 @@
 use Rattle.std.proofs.Common.{◌≡◌, true, false, ap, sym, ◌∙◌}
 use Rattle.std.specs.Prelude.{is_some, None}
-use Rattle.crossbeam_epoch.specs.World.Store.{value_at}
+use Rattle.crossbeam_epoch.specs.world.Store.{value_at}
 use Rattle.joint.proofs.lemmas.nodes.NodesInvariant.{there_in, node_in}
 use Rattle.joint.proofs.nodes.Nodes.slot.Goals as goal
 

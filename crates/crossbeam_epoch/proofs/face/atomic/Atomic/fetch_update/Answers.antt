@@ -1,5 +1,5 @@
 use Rattle.std.proofs.Common.{sym, ap, ◌∙◌}
-use Rattle.crossbeam_epoch.specs.Face.Pointer.{is_foreign}
+use Rattle.crossbeam_epoch.specs.face.Pointer.{is_foreign}
 use Rattle.crossbeam_epoch.proofs.lemmas.face.Updates.{one_pointer, given_next, gave_next, gave_none}
 use Rattle.crossbeam_epoch.proofs.face.atomic.Atomic.fetch_update.Goals as goal
 

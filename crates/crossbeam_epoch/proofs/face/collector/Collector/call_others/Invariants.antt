@@ -1,6 +1,6 @@
 use Rattle.std.proofs.Common.{◌≡◌}
-use Rattle.crossbeam_epoch.specs.Face.Pins.{IsDue}
-use Rattle.crossbeam_epoch.specs.Face.Queue.{IsTaken}
+use Rattle.crossbeam_epoch.specs.face.Pins.{IsDue}
+use Rattle.crossbeam_epoch.specs.face.Queue.{IsTaken}
 use Rattle.crossbeam_epoch.proofs.face.collector.Collector.call_others.Given as goal
 
 abbrev pub invariant-loop : goal.invariant-loop

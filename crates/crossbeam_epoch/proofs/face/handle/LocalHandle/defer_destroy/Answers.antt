@@ -1,6 +1,6 @@
 use Rattle.std.proofs.Common.{rules, ap, subst, sym, length, ◌∙◌}
 use Rattle.std.specs.Prelude.{nat_le}
-use Rattle.crossbeam_epoch.specs.Face.Handle.{SealsUnder}
+use Rattle.crossbeam_epoch.specs.face.Handle.{SealsUnder}
 use Rattle.crossbeam_epoch.specs.Bags.{jobs_in}
 use Rattle.crossbeam_epoch.specs.Limits.{bag_places}
 use Rattle.crossbeam_epoch.proofs.lemmas.face.Guards.{with_place}

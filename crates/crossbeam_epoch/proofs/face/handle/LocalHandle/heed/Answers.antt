@@ -1,5 +1,5 @@
 use Rattle.std.proofs.Common.{arith, ap, sym, subst, ◌∙◌}
-use Rattle.crossbeam_epoch.specs.Face.Tokens.{IsOf}
+use Rattle.crossbeam_epoch.specs.face.Tokens.{IsOf}
 use Rattle.crossbeam_epoch.proofs.lemmas.face.Guards.{looked_with, read_under}
 use Rattle.crossbeam_epoch.proofs.face.handle.LocalHandle.heed.Goals as goal
 

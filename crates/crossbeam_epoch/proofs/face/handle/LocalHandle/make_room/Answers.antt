@@ -1,7 +1,7 @@
 use Rattle.std.proofs.Common.{ap, subst, arith, length, false, ◌≡◌, ◌≤◌, ◌∙◌}
 use Rattle.std.specs.Prelude.{nat_le}
 use Rattle.crossbeam_epoch.specs.Limits.{bag_places}
-use Rattle.crossbeam_epoch.specs.Face.Handle.{with_room}
+use Rattle.crossbeam_epoch.specs.face.Handle.{with_room}
 use Rattle.crossbeam_epoch.proofs.lemmas.face.Guards.{on_ok, if_err, not_sealed, full_seals, with_room_unfull, has_no_room}
 use Rattle.crossbeam_epoch.proofs.face.handle.LocalHandle.make_room.Goals as goal
 

@@ -1,6 +1,6 @@
 use Rattle.std.proofs.Common.{ap, ◌∙◌}
 use Rattle.crossbeam_epoch.specs.declared.face.seats.View.{View}
-use Rattle.crossbeam_epoch.specs.Face.Tokens.{known}
+use Rattle.crossbeam_epoch.specs.face.Tokens.{known}
 use Rattle.crossbeam_epoch.proofs.lemmas.face.Guards.{read_on}
 use Rattle.crossbeam_epoch.proofs.face.pins.Pins.advance.Goals as goal
 

@@ -1,5 +1,5 @@
 use Rattle.std.proofs.Common.{arith, ap, ◌∙◌}
-use Rattle.crossbeam_epoch.specs.Face.Tokens.{known}
+use Rattle.crossbeam_epoch.specs.face.Tokens.{known}
 use Rattle.crossbeam_epoch.proofs.lemmas.face.Notes.{heeds, read_after}
 use Rattle.crossbeam_epoch.proofs.face.pins.Pins.heed.Goals as goal
 

@@ -1,5 +1,5 @@
 use Rattle.std.proofs.Common.{◌≡◌}
-use Rattle.crossbeam_epoch.specs.Face.Tokens.{known, IsOf}
+use Rattle.crossbeam_epoch.specs.face.Tokens.{known, IsOf}
 use Rattle.crossbeam_epoch.proofs.lemmas.face.Pins.{refused_view}
 use Rattle.crossbeam_epoch.proofs.face.pins.Pins.register.Given as goal
 

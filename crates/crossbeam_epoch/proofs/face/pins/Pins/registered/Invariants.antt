@@ -1,5 +1,5 @@
 use Rattle.std.proofs.Common.{◌≡◌, ◌≤◌}
-use Rattle.crossbeam_epoch.specs.Face.Tokens.{known, IsOf}
+use Rattle.crossbeam_epoch.specs.face.Tokens.{known, IsOf}
 use Rattle.crossbeam_epoch.proofs.face.pins.Pins.registered.Given as goal
 
 abbrev pub invariant-loop-place : goal.invariant-loop-place

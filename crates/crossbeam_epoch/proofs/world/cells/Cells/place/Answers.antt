@@ -1,6 +1,6 @@
 use Rattle.std.proofs.Common.{rules, ◌≡◌, ◌+◌, ◌<◌, ◌++◌, ◌∷◌, [], sym, length, arith, get_or}
 use Rattle.std.proofs.lemmas.List.{get_or_read}
-use Rattle.crossbeam_epoch.specs.World.Store.{fresh}
+use Rattle.crossbeam_epoch.specs.world.Store.{fresh}
 use Rattle.crossbeam_epoch.proofs.lemmas.world.FreeCells.{opens, fits_used, fits_pushed, placed_next}
 use Rattle.crossbeam_epoch.proofs.world.cells.Cells.place.Goals as goal
 

@@ -1,6 +1,6 @@
 use Rattle.std.proofs.Common.{rules, ◌≡◌, ◌<◌, ◌∙◌, true, length, get_or}
 use Rattle.std.specs.Prelude.{is_some}
-use Rattle.crossbeam_epoch.specs.World.Store.{fresh, value_at}
+use Rattle.crossbeam_epoch.specs.world.Store.{fresh, value_at}
 use Rattle.crossbeam_epoch.proofs.lemmas.world.FreeCells.{some_of, fits_replaced}
 use Rattle.crossbeam_epoch.proofs.world.cells.Cells.replace.Goals as goal
 

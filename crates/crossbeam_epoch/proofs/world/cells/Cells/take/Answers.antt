@@ -1,6 +1,6 @@
 use Rattle.std.proofs.Common.{rules, ◌≡◌, ◌<◌, ◌∙◌, true, sym, length, get_or}
 use Rattle.std.specs.Prelude.{is_some}
-use Rattle.crossbeam_epoch.specs.World.Store.{fresh, value_at}
+use Rattle.crossbeam_epoch.specs.world.Store.{fresh, value_at}
 use Rattle.crossbeam_epoch.proofs.lemmas.world.FreeCells.{some_of, fits_spent, fits_emptied, room_for}
 use Rattle.crossbeam_epoch.proofs.world.cells.Cells.take.Goals as goal
 

@@ -4,8 +4,8 @@ use Rattle.std.specs.Bool.{MatchBool}
 use Rattle.crossbeam_epoch.specs.declared.face.guard.Guard.{Guard}
 use Rattle.crossbeam_epoch.specs.declared.fault.Fault.{Fault}
 use Rattle.crossbeam_epoch.specs.declared.fault.Fault.TheVariants.{Foreign}
-use Rattle.crossbeam_epoch.specs.Face.Handle.{owns}
-use Rattle.crossbeam_epoch.specs.Face.Participant.{Handle, IsPinned}
+use Rattle.crossbeam_epoch.specs.face.Handle.{owns}
+use Rattle.crossbeam_epoch.specs.face.Participant.{Handle, IsPinned}
 
 -- the handle with one guard more, which is its own and was confirmed by the handle's epoch
 pub record IsPinnedFor {T J : Type 0} (h h' : Handle T J) (g : Guard T J) : Type 0 where

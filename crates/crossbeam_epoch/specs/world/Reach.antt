@@ -6,11 +6,11 @@ use Rattle.crossbeam_epoch.specs.declared.names.Ptr.{Ptr}
 use Rattle.crossbeam_epoch.specs.declared.world.report.Event.{Event}
 use Rattle.crossbeam_epoch.specs.declared.world.report.Report.{Report}
 use Rattle.crossbeam_epoch.specs.declared.world.report.Step.{Step}
-use Rattle.crossbeam_epoch.specs.World.History.{Mark, Pinned, Repinned, Unpinned, Deferred, Called, WasDeferred}
-use Rattle.crossbeam_epoch.specs.World.Machine.{State}
-use Rattle.crossbeam_epoch.specs.World.Store.{Store, value_at, was_given}
-use Rattle.crossbeam_epoch.specs.World.Steps.{after, marks}
-use Rattle.crossbeam_epoch.specs.World.Fits.{Fits, IsTable}
+use Rattle.crossbeam_epoch.specs.world.History.{Mark, Pinned, Repinned, Unpinned, Deferred, Called, WasDeferred}
+use Rattle.crossbeam_epoch.specs.world.Machine.{State}
+use Rattle.crossbeam_epoch.specs.world.Store.{Store, value_at, was_given}
+use Rattle.crossbeam_epoch.specs.world.Steps.{after, marks}
+use Rattle.crossbeam_epoch.specs.world.Fits.{Fits, IsTable}
 
 -- what a call or a step did
 pub data Act : Type 0 where

@@ -8,8 +8,8 @@ use Rattle.crossbeam_epoch.specs.declared.world.participant.Participant.{Partici
 use Rattle.crossbeam_epoch.specs.declared.bag.Sealed.{Sealed}
 use Rattle.crossbeam_epoch.specs.declared.world.participant.Phase.{Phase}
 use Rattle.crossbeam_epoch.specs.declared.world.participant.Phase.TheVariants.{Idle, Look, Publish, RepinLook, RepinPublish, Seal, Queue, ReleaseSeal, ReleaseQueue, Secure, SecureSeal, SecureQueue, Load, Inspect, Advance, Take, Call}
-use Rattle.crossbeam_epoch.specs.World.History.{Mark, began, blocks, times_called, deferrals, IsGraceful, WasDeferred, AreCalledLater}
-use Rattle.crossbeam_epoch.specs.World.Machine.{State, place, blank}
+use Rattle.crossbeam_epoch.specs.world.History.{Mark, began, blocks, times_called, deferrals, IsGraceful, WasDeferred, AreCalledLater}
+use Rattle.crossbeam_epoch.specs.world.Machine.{State, place, blank}
 
 -- the table has its places, and those that nobody holds are blank
 pub record IsTable {J : Type 0} (places : ℕ) (table : List (Participant J)) : Type 0 where

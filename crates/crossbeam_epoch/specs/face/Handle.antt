@@ -7,7 +7,7 @@ use Rattle.crossbeam_epoch.specs.declared.face.guard.Row.{Row}
 use Rattle.crossbeam_epoch.specs.declared.face.queue.Queued.{Queued}
 use Rattle.crossbeam_epoch.specs.declared.fault.Fault.{Fault}
 use Rattle.crossbeam_epoch.specs.declared.fault.Fault.TheVariants.{Foreign, Memory}
-use Rattle.crossbeam_epoch.specs.Face.Participant.{Handle}
+use Rattle.crossbeam_epoch.specs.face.Participant.{Handle}
 use Rattle.crossbeam_epoch.specs.Bags.{jobs_in}
 use Rattle.crossbeam_epoch.specs.Limits.{bag_places}
 

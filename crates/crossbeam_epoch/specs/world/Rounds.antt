@@ -8,8 +8,8 @@ use Rattle.crossbeam_epoch.specs.declared.world.report.Op.{Op}
 use Rattle.crossbeam_epoch.specs.declared.world.report.Op.TheVariants.{Pin, Unpin, Flush}
 use Rattle.crossbeam_epoch.specs.declared.world.report.Outcome.TheVariants.{Done}
 use Rattle.crossbeam_epoch.specs.declared.world.report.Report.{Report}
-use Rattle.crossbeam_epoch.specs.World.Calls.{IsCall}
-use Rattle.crossbeam_epoch.specs.World.Machine.{State, place}
+use Rattle.crossbeam_epoch.specs.world.Calls.{IsCall}
+use Rattle.crossbeam_epoch.specs.world.Machine.{State, place}
 use Rattle.crossbeam_epoch.specs.Limits.{most_bags}
 
 -- every participant is between calls and unpinned, and the epoch is at least three below its greatest

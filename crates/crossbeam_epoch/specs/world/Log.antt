@@ -13,9 +13,9 @@ use Rattle.crossbeam_epoch.specs.declared.world.report.Outcome.{Outcome}
 use Rattle.crossbeam_epoch.specs.declared.world.report.Outcome.TheVariants.{Running, Done, Refused}
 use Rattle.crossbeam_epoch.specs.declared.world.report.Report.{Report}
 use Rattle.crossbeam_epoch.specs.declared.world.report.Step.{Step}
-use Rattle.crossbeam_epoch.specs.World.History.{Mark, Pinned, Repinned, Unpinned, Deferred, Called}
-use Rattle.crossbeam_epoch.specs.World.Machine.{State, place}
-use Rattle.crossbeam_epoch.specs.World.Steps.{unless_refused}
+use Rattle.crossbeam_epoch.specs.world.History.{Mark, Pinned, Repinned, Unpinned, Deferred, Called}
+use Rattle.crossbeam_epoch.specs.world.Machine.{State, place}
+use Rattle.crossbeam_epoch.specs.world.Steps.{unless_refused}
 
 -- a step and its report, or the ticket of a deferral and the name of the cell that it is to destroy
 pub data LogLine : Type 0 where

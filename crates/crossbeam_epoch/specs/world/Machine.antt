@@ -10,7 +10,7 @@ use Rattle.crossbeam_epoch.specs.declared.world.participant.Participant.{Partici
 use Rattle.crossbeam_epoch.specs.declared.bag.Sealed.{Sealed}
 use Rattle.crossbeam_epoch.specs.declared.world.participant.Phase.{Phase}
 use Rattle.crossbeam_epoch.specs.declared.world.participant.Phase.TheVariants.{Idle, RepinPublish, Load, Inspect, Advance, Take, Call, SecureSeal}
-use Rattle.crossbeam_epoch.specs.World.Store.{Store, value_at, emptied, opened_store}
+use Rattle.crossbeam_epoch.specs.world.Store.{Store, value_at, emptied, opened_store}
 use Rattle.crossbeam_epoch.specs.Chain.{room_behind, room_left}
 use Rattle.crossbeam_epoch.specs.Limits.{bag_places, most_bags}
 

@@ -16,10 +16,10 @@ use Rattle.crossbeam_epoch.specs.declared.fault.Fault.TheVariants as F
 use Rattle.crossbeam_epoch.specs.declared.world.report.Outcome.{Outcome}
 use Rattle.crossbeam_epoch.specs.declared.world.report.Outcome.TheVariants.{Running, Done, Refused}
 use Rattle.crossbeam_epoch.specs.declared.world.report.Report.{Report}
-use Rattle.crossbeam_epoch.specs.World.History as H
-use Rattle.crossbeam_epoch.specs.World.History.{Mark}
-use Rattle.crossbeam_epoch.specs.World.Machine.{State, blank, place, with_place, in_phase, published, relooked, repinned, advanced, queued, released, secured, inspected, took, called, destroys, no_entry}
-use Rattle.crossbeam_epoch.specs.World.Store.{Store, value_at}
+use Rattle.crossbeam_epoch.specs.world.History as H
+use Rattle.crossbeam_epoch.specs.world.History.{Mark}
+use Rattle.crossbeam_epoch.specs.world.Machine.{State, blank, place, with_place, in_phase, published, relooked, repinned, advanced, queued, released, secured, inspected, took, called, destroys, no_entry}
+use Rattle.crossbeam_epoch.specs.world.Store.{Store, value_at}
 use Rattle.crossbeam_epoch.specs.Limits.{bag_places}
 
 -- a fault where a test holds

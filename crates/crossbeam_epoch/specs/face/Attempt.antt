@@ -3,7 +3,7 @@ use Rattle.std.specs.Prelude.{ℕ, ◌≡◌, ◌≢◌, ◌+◌, ◌≤◌}
 use Rattle.crossbeam_epoch.specs.declared.face.pins.attempt.Attempt.{Attempt}
 use Rattle.crossbeam_epoch.specs.declared.face.pins.attempt.Ending.{Ending}
 use Rattle.crossbeam_epoch.specs.declared.face.pins.attempt.Ending.TheVariants.{AtLast, Stopped, Exchanged}
-use Rattle.crossbeam_epoch.specs.Face.Pins.{Passes}
+use Rattle.crossbeam_epoch.specs.face.Pins.{Passes}
 
 -- an attempt from an epoch ended so, and this epoch was seen last: the epoch was the last one; or a place wasn't passed; or every
 -- place was, and the epoch was exchanged once, and went on where it was still the one that was looked at

@@ -2,7 +2,7 @@
 use Rattle.std.specs.Prelude.{◌≡◌, ℕ, ◌+◌, ◌==◌, nat_lt, nat_le, ◌≤◌, Bool, List, length, is_none, if◌then◌else◌, slice_index_or, ◌&&◌}
 use Rattle.std.specs.List.{sum_by}
 use Rattle.crossbeam_epoch.specs.declared.world.cells.Cell.{Cell}
-use Rattle.crossbeam_epoch.specs.World.Store.{fresh}
+use Rattle.crossbeam_epoch.specs.world.Store.{fresh}
 
 -- a used cell that may take another value
 abbrev pub is_reusable : {T : Type 0} → ℕ → Cell T → Bool

@@ -13,10 +13,10 @@ use Rattle.crossbeam_epoch.specs.declared.world.report.Op.{Op}
 use Rattle.crossbeam_epoch.specs.declared.world.report.Op.TheVariants.{Pin, Unpin, Repin, Flush, Release, Secure}
 use Rattle.crossbeam_epoch.specs.declared.world.report.Outcome.{Outcome}
 use Rattle.crossbeam_epoch.specs.declared.world.report.Outcome.TheVariants.{Running, Done, Refused}
-use Rattle.crossbeam_epoch.specs.World.Fits.{HandFits, weight}
-use Rattle.crossbeam_epoch.specs.World.Machine.{State, place, after_work}
-use Rattle.crossbeam_epoch.specs.World.Steps.{called_entry, begin_fault}
-use Rattle.crossbeam_epoch.specs.World.Store.{Store, value_at, emptied}
+use Rattle.crossbeam_epoch.specs.world.Fits.{HandFits, weight}
+use Rattle.crossbeam_epoch.specs.world.Machine.{State, place, after_work}
+use Rattle.crossbeam_epoch.specs.world.Steps.{called_entry, begin_fault}
+use Rattle.crossbeam_epoch.specs.world.Store.{Store, value_at, emptied}
 use Rattle.crossbeam_epoch.specs.Limits.{bag_places, most_bags}
 
 -- what holds of a collector between any two steps: only a collection that calls has jobs in hand, and no bag has more than 64

@@ -2,9 +2,9 @@
 use Rattle.std.specs.Prelude.{◌≡◌, ℕ, zero, suc, ◌+◌, nat_lt, List, [], ◌∷◌, ◌++◌, if◌then◌else◌}
 use Rattle.crossbeam_epoch.specs.declared.bag.Deferral.{Deferral}
 use Rattle.crossbeam_epoch.specs.declared.bag.Sealed.{Sealed}
-use Rattle.crossbeam_epoch.specs.World.History.{Mark, Called, times_called, IsGraceful, AreCalledLater}
-use Rattle.crossbeam_epoch.specs.World.Machine.{State, place, destroys, after_work}
-use Rattle.crossbeam_epoch.specs.World.Store.{Store}
+use Rattle.crossbeam_epoch.specs.world.History.{Mark, Called, times_called, IsGraceful, AreCalledLater}
+use Rattle.crossbeam_epoch.specs.world.Machine.{State, place, destroys, after_work}
+use Rattle.crossbeam_epoch.specs.world.Store.{Store}
 
 -- how many of the first n places are taken
 abbrev pub registered_below : {T J : Type 0} → State T J → ℕ → ℕ

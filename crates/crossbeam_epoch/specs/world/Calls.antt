@@ -8,13 +8,13 @@ use Rattle.crossbeam_epoch.specs.declared.world.report.Outcome.{Outcome}
 use Rattle.crossbeam_epoch.specs.declared.world.report.Outcome.TheVariants.{Running}
 use Rattle.crossbeam_epoch.specs.declared.world.report.Report.{Report}
 use Rattle.crossbeam_epoch.specs.declared.world.report.Step.{Step}
-use Rattle.crossbeam_epoch.specs.World.Log.{LogLine, log_after, Shows}
-use Rattle.crossbeam_epoch.specs.World.Machine.{State}
+use Rattle.crossbeam_epoch.specs.world.Log.{LogLine, log_after, Shows}
+use Rattle.crossbeam_epoch.specs.world.Machine.{State}
 use Rattle.crossbeam_epoch.specs.declared.names.Name.{Name}
-use Rattle.crossbeam_epoch.specs.World.Fits.{Fits}
-use Rattle.crossbeam_epoch.specs.World.History.{Mark}
-use Rattle.crossbeam_epoch.specs.World.Reach.{Moment, HasMoments, moments_after}
-use Rattle.crossbeam_epoch.specs.World.Steps.{state_after, history_after, AreReports}
+use Rattle.crossbeam_epoch.specs.world.Fits.{Fits}
+use Rattle.crossbeam_epoch.specs.world.History.{Mark}
+use Rattle.crossbeam_epoch.specs.world.Reach.{Moment, HasMoments, moments_after}
+use Rattle.crossbeam_epoch.specs.world.Steps.{state_after, history_after, AreReports}
 
 -- the event of a call's n-th step
 abbrev pub event_at : Op → ℕ → Event

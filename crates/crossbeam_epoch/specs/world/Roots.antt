@@ -1,7 +1,7 @@
 -- What the calls on a root make of it.
 use Rattle.std.specs.Prelude.{ℕ, slice_set, slice_index_or}
 use Rattle.crossbeam_epoch.specs.declared.names.Ptr.{Ptr}
-use Rattle.crossbeam_epoch.specs.World.Machine.{State, null, with_roots}
+use Rattle.crossbeam_epoch.specs.world.Machine.{State, null, with_roots}
 
 -- what a root holds; past the last one null
 abbrev pub root_at : {T J : Type 0} → State T J → ℕ → Ptr
