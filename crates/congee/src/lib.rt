@@ -37,8 +37,9 @@ pub use forms::{
 pub use judge::{ArcPayload, Ordered64, Payload, Word64};
 pub use keys::KEY_BYTES;
 pub use owned::{
-    ArcIter, ArcValues, BuildError, Calls, Congee, CongeeArc, Count, Drainer, Entry, Iter, Keys,
-    LevelStats, NoDrain, NodeInfo, NodeStats, U64Congee, U64Entry, Values, owner_of, payload_of,
+    ArcIntoIter, ArcIter, ArcValues, BuildError, Calls, Congee, CongeeArc, Count, Drainer, Entry,
+    IntoIter, Iter, Keys, LevelStats, NoDrain, NodeInfo, NodeStats, U64Congee, U64Entry,
+    Uncomputed, Values, owner_of, payload_of,
 };
 pub use protocol::{
     Machine, Move, NodeName, Noise, Op, Outcome, PlainStore, Played, Refusal, Seen, Step, Store,

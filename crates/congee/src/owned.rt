@@ -58,12 +58,14 @@ mod updates;
 mod values;
 mod writing;
 
-pub use arc_iter::{ArcIter, ArcValues};
+pub use arc_calls::Uncomputed;
+pub use arc_iter::{ArcIntoIter, ArcIter, ArcValues};
 pub use building::BuildError;
 pub use congee::Congee;
 pub use congee_arc::{CongeeArc, Count, owner_of, payload_of};
 pub use drainer::{Calls, Drainer, NoDrain};
 pub use entry::Entry;
+pub use into_iter::IntoIter;
 pub use iter::{Iter, Keys, Values};
 pub use stats::{LevelStats, NodeInfo, NodeStats};
 pub use u64_congee::U64Congee;

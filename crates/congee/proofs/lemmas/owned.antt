@@ -1,4 +1,5 @@
 pub mod Answered
+pub mod Appending
 pub mod EntryRanges
 pub mod Clears
 pub mod Contents
@@ -26,6 +27,7 @@ pub mod Iterated
 pub mod RangeEnds
 pub mod KeyOrders
 pub mod Walks
+pub mod Popped
 pub mod Puts
 pub mod RangeLemmas
 pub mod Refilling

@@ -1,5 +1,6 @@
-//! Iterators over a tree of shared values, which lend the values.
+//! Iterators over a tree of shared values, which lend the values, and one that takes the tree and gives their owners.
 ghost use Rattle.std.specs.Prelude.{◌≡◌, map};
+ghost use Rattle.std.specs.Arc.{arc_value};
 ghost use Rattle.std.specs.FinMap as fin;
 ghost use Rattle.std.specs.Iterator.{YieldsFirstBy, YieldsFirstRef, YieldsLastBy, YieldsLastRef, item_count};
 ghost use Rattle.std.specs.Range.Bound.{bound_map};
@@ -12,9 +13,11 @@ use crate::allocator::DefaultAllocator;
 use crate::owned::congee_arc::CongeeArc;
 use crate::owned::iter::{Keys, Run, first_word, last_word};
 use judge::{ArcPayload, Word64};
+use std::alloc::Global;
 use std::iter::{DoubleEndedIterator, IntoIterator, Iterator};
 use std::marker::{Model, PhantomData};
 use std::ops::RangeBounds;
+use std::sync::Arc;
 
 /// The pairs of a tree of shared values, or those within bounds, ascending by key, each value lent.
 #[derive(Drop)]
@@ -158,5 +161,73 @@ impl<'a, K: Word64, V: Drop> IntoIterator for &'a CongeeArc<K, V> {
 
     fn into_iter(self) -> ArcIter<'a, K, V> {
         self.iter()
+    }
+}
+
+/// The pairs of a tree of shared values, ascending by key, from both ends, each with the tree's owner of its value. It has the tree,
+/// takes each pair out of it as it comes to it, and drops the others with it.
+#[derive(Drop)]
+pub struct ArcIntoIter<K: Word64, V: Drop> {
+    tree: CongeeArc<K, V>,
+}
+
+impl<K: Word64, V: Drop> Model for ArcIntoIter<K, V> {
+    ghost use Rattle.std.specs.Prelude.{List, map};
+
+    ghost Value = { List (K × V) };
+
+    ghost use Rattle.std.specs.FinMap as fin;
+    ghost use Rattle.congee.specs.owned.OwnerCalls.{shared_by};
+
+    ghost view = { λ i. map (shared_by K.of_word) (fin.entries i.tree.pairs) };
+}
+
+impl<K: Word64, V: Drop> ArcIntoIter<K, V> {
+    /// The next pair.
+    fn step(&mut self) -> Option<(K, Arc<V, Global>)>
+        ensures { YieldsFirstBy (λ p. (p.0, arc_value p.1)) (λ s. s) self.old result self.new }
+    {
+        self.tree.words_end();
+        self.tree.pop_first()
+    }
+
+    /// The last pair.
+    fn step_back(&mut self) -> Option<(K, Arc<V, Global>)>
+        ensures { YieldsLastBy (λ p. (p.0, arc_value p.1)) (λ s. s) self.old result self.new }
+    {
+        self.tree.words_end();
+        self.tree.pop_last()
+    }
+}
+
+impl<K: Word64, V: Drop> Iterator for ArcIntoIter<K, V> {
+    type Item = (K, Arc<V, Global>);
+
+    ghost next_gives = { YieldsFirstBy (λ p. (p.0, arc_value p.1)) (λ s. s) };
+
+    ghost remaining = { item_count (λ s. s) };
+
+    fn next(&mut self) -> Option<(K, Arc<V, Global>)> {
+        self.step()
+    }
+}
+
+impl<K: Word64, V: Drop> DoubleEndedIterator for ArcIntoIter<K, V> {
+    ghost next_back_gives = { YieldsLastBy (λ p. (p.0, arc_value p.1)) (λ s. s) };
+
+    fn next_back(&mut self) -> Option<(K, Arc<V, Global>)> {
+        self.step_back()
+    }
+}
+
+impl<K: Word64, V: Drop> IntoIterator for CongeeArc<K, V> {
+    type Item = (K, Arc<V, Global>);
+
+    type IntoIter = ArcIntoIter<K, V>;
+
+    ghost into_iter_gives = { λ t r. r ≡ map (shared_by K.of_word) (fin.entries t.pairs) };
+
+    fn into_iter(self) -> ArcIntoIter<K, V> {
+        ArcIntoIter { tree: self }
     }
 }

@@ -1,5 +1,5 @@
 //! The nodes of an owned tree: the way of a key, and the changes of single nodes.
-ghost use Rattle.std.specs.Prelude.{◌≡◌, ◌+◌, ℕ, ◌≤◌, Option, Some, IsSome, IfErr, OnOk, OnErr};
+ghost use Rattle.std.specs.Prelude.{◌≡◌, ◌+◌, ◌*◌, ℕ, ◌≤◌, Option, Some, IsSome, IfErr, OnOk, OnErr};
 ghost use Rattle.std.specs.Option.{option_copied};
 ghost use Rattle.slab.specs.Slab.{get, ContainsKey, HasRoomFor};
 
@@ -52,8 +52,8 @@ pub struct Arena<P: Stored, A> {
 }
 
 impl<P: Stored, A: Allocator> Arena<P, A> {
-    ghost use Rattle.congee.specs.owned.Place.{Located};
-    ghost use Rattle.congee.specs.owned.Arena.{IsTree};
+    ghost use Rattle.congee.specs.owned.Place.{Ends, Located};
+    ghost use Rattle.congee.specs.owned.Arena.{IsTree, OnWay};
 
     /// The end of a key's way from the root.
     #[inline(always)]
@@ -81,6 +81,31 @@ impl<P: Stored, A: Allocator> Arena<P, A> {
                     above = at;
                     at = below;
                 }
+            }
+        }
+    }
+
+    /// The end of a key's way, from a slot on whose node is on it.
+    #[inline(always)]
+    pub(crate) fn locate_from(&self, from: usize, key: &[u8; KEY_BYTES]) -> Place
+        requires tree { IsTree self.now.nodes }
+        requires way { OnWay self.now.nodes key.now (257 * from) }
+        ensures { Ends self.now.nodes key.now result }
+    {
+        let mut at = from;
+        loop {
+            match self.nodes.look_on(at, key) {
+                Onward::Free => return Place::ending(at, at, Name::of(at), Spot::Free),
+                Onward::Held(_) => return Place::ending(at, at, Name::of(at), Spot::Held),
+                Onward::FreeBelow(leaf) => return Place::ending(at, at, leaf, Spot::Free),
+                Onward::HeldBelow(leaf, _) => return Place::ending(at, at, leaf, Spot::Held),
+                Onward::Apart(name) => return Place::ending(
+                    at,
+                    at,
+                    Name::of(at),
+                    Spot::Apart(name),
+                ),
+                Onward::Below(below) => at = below,
             }
         }
     }

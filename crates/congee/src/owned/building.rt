@@ -57,13 +57,14 @@ impl<K: Word64, V: Word64, A: Allocator> Congee<K, V, A, NoDrain> {
         let mut tree = Congee::new(alloc, allocator)?;
         let mut last = None;
         let mut place = 0u64;
+        let mut near = 0;
         for pair in pairs {
             let (key, value) = pair;
             let number = key.to_word();
             if !is_past(number, last) {
                 return Err(BuildError::OutOfOrder { place });
             }
-            tree.insert_number(number, value.to_word())?;
+            near = tree.insert_number_near(near, number, value.to_word())?;
             last = Some(number);
             place = place.saturating_add(1);
         }
@@ -84,8 +85,9 @@ impl<K: Word64, V: Word64, A: Allocator, D: Drop> Congee<K, V, A, D> {
     {
         let mut copy = Congee::new(alloc, allocator)?;
         let mut next = self.numbers_from(Some(0));
+        let mut near = 0;
         while let Some((key, value)) = next {
-            copy.insert_number(key, value)?;
+            near = copy.insert_number_near(near, key, value)?;
             next = self.numbers_from(number_after(key));
         }
         Ok(copy)

@@ -122,7 +122,7 @@ pub fn payload_of<V>(owner: Option<Arc<V, Global>>) -> Option<ArcPayload<V>>
 }
 
 /// One more owner of the value.
-fn another_owner<V: Drop>(payload: &ArcPayload<V>) -> Result<Arc<V, Global>, Count>
+pub(super) fn another_owner<V: Drop>(payload: &ArcPayload<V>) -> Result<Arc<V, Global>, Count>
     ensures { IfOk result (λ owner. arc_value owner ≡ payload.now) }
 {
     match payload.copy() {

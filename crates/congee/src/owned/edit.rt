@@ -3,19 +3,20 @@ ghost use Rattle.std.specs.Prelude.{◌≡◌, [], ◌∷◌, length, slice_inde
 ghost use Rattle.slab.specs.Slab.{ContainsKey, HasRoomFor};
 ghost use Rattle.congee.specs.Heap.{Nothing, child_for};
 ghost use Rattle.congee.specs.forms.Forms.{size_of};
-ghost use Rattle.congee.specs.owned.Arena.{IsTree, OnWay, Hangs, Reached, heap_of};
+ghost use Rattle.congee.specs.owned.Arena.{IsTree, OnWay, Hangs, heap_of};
 ghost use Rattle.congee.specs.owned.Charge.{Covers};
 ghost use Rattle.congee.specs.owned.Edits.{Adds, Denies, ForksOff, Swaps};
 ghost use Rattle.congee.specs.owned.Naming.{HasOwnSlot};
 ghost use Rattle.congee.specs.owned.OwnedSteps.{IsHeld};
-ghost use Rattle.congee.specs.owned.Place.{PartsAt};
+ghost use Rattle.congee.specs.owned.Place.{IsOpen, PartsAt};
 ghost use Rattle.congee.specs.owned.Renames.{Renamed};
-ghost use Rattle.congee.specs.owned.Wanted.{room_for, free_wants};
+ghost use Rattle.congee.specs.owned.Wanted.{room_for, free_wants, wants_at};
 ghost use Rattle.congee.specs.declared.forms.base_node.NodeType.TheVariants.{N4};
 ghost use Rattle.congee.specs.declared.forms.prefix.TheConstants.{MAX_PREFIX_LEN};
 
 use crate::allocator::{Allocator, OOMError};
 use crate::forms::base_node::NodeType;
+use crate::forms::prefix::MAX_PREFIX_LEN;
 use crate::keys::KEY_BYTES;
 use crate::owned::arena::{Arena, Stored};
 use crate::owned::inline_leaf::Lone;
@@ -83,7 +84,8 @@ impl<P: Stored, A: Allocator> Arena<P, A> {
         value: P,
     ) -> Result<(), (OOMError, P)>
         requires tree { IsTree self.old.nodes }
-        requires way { Reached self.old.nodes key.now above at }
+        requires way { OnWay self.old.nodes key.now at }
+        requires hangs { (HasOwnSlot at → ⊥) → Hangs self.old.nodes key.now above at }
         requires free { child_for (heap_of self.old.nodes at) key.now ≡ Nothing }
         requires leaf { length (heap_of self.old.nodes at).prefix ≡ MAX_PREFIX_LEN }
         requires covered { Covers A.charged_of self.old }
@@ -131,6 +133,19 @@ impl<P: Stored, A: Allocator> Arena<P, A> {
         Ok(())
     }
 
+    /// Puts a value into a leaf that is open for the key, which asks for no node.
+    #[inline(always)]
+    pub(crate) fn add_here(&mut self, at: Name, key: &[u8; KEY_BYTES], value: P)
+        requires own { HasOwnSlot at }
+        requires tree { IsTree self.old.nodes }
+        requires open { IsOpen self.old.nodes key.now at }
+        ensures { Adds A.charged_of A.limit_of self.old self.new
+            key.now None value (wants_at (heap_of self.old.nodes) key.now) }
+    {
+        let byte = key[MAX_PREFIX_LEN];
+        self.nodes.hang_value(at, byte, value);
+    }
+
     /// Puts a value in below a node that has nothing for the key, or hands it back.
     #[inline(always)]
     pub(crate) fn add(
@@ -142,7 +157,8 @@ impl<P: Stored, A: Allocator> Arena<P, A> {
         value: P,
     ) -> Result<(), (OOMError, P)>
         requires tree { IsTree self.old.nodes }
-        requires way { Reached self.old.nodes key.now above at }
+        requires way { OnWay self.old.nodes key.now at }
+        requires hangs { (HasOwnSlot at → ⊥) → Hangs self.old.nodes key.now above at }
         requires free { child_for (heap_of self.old.nodes at) key.now ≡ Nothing }
         requires covered { Covers A.charged_of self.old }
         ensures adds { OnOk result (Adds A.charged_of A.limit_of self.old self.new

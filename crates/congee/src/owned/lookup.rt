@@ -1,5 +1,5 @@
 //! What a node has for a key, under a byte, and as a walk reads it.
-ghost use Rattle.std.specs.Prelude.{◌≡◌, ◌+◌, ◌*◌, ◌≤◌, ℕ, Some, None, IfSome, MatchOption};
+ghost use Rattle.std.specs.Prelude.{◌≡◌, ◌+◌, ◌*◌, ◌≤◌, ℕ, Some, None, true, IfSome, MatchOption};
 ghost use Rattle.std.specs.FinMap as map;
 ghost use Rattle.slab.specs.Slab.{get, ContainsKey};
 ghost use Rattle.congee.specs.forms.Forms.{children_of};
@@ -21,8 +21,9 @@ use crate::owned::slots::Slot;
 impl<P: Stored> Nodes<P> {
     ghost use Rattle.congee.specs.forms.Bytes.{IsFirst};
     ghost use Rattle.congee.specs.Heap.{fits};
-    ghost use Rattle.congee.specs.owned.Arena.{IsTree, heap_of};
+    ghost use Rattle.congee.specs.owned.Arena.{IsTree, OnWay, heap_of};
     ghost use Rattle.congee.specs.owned.Entries.{lone_seen};
+    ghost use Rattle.congee.specs.owned.Place.{IsOpen};
     ghost use Rattle.congee.specs.owned.Rows.{SeesRow};
     ghost use Rattle.congee.specs.owned.Sights.{Sees};
     ghost use Rattle.congee.specs.owned.Slots.{lone_node};
@@ -128,6 +129,32 @@ impl<P: Stored> Nodes<P> {
                 None => Onward::Free,
                 Some(value) => Onward::Held(value),
             },
+        }
+    }
+
+    /// Whether the node in a slot is a leaf on the key's way that has nothing for the key, and room.
+    #[inline(always)]
+    pub(crate) fn is_open(&self, slot: usize, key: &[u8; KEY_BYTES]) -> bool
+        ensures { result ≡ true → IsOpen self.now key.now (257 * slot) }
+    {
+        let Some(Slot::Leaf(leaf)) = self.slab.get(slot) else {
+            return false;
+        };
+        if !leaf.is_prefix_of(key) || leaf.is_full() {
+            return false;
+        }
+        leaf.get_child(key[MAX_PREFIX_LEN]).is_none()
+    }
+
+    /// A slot whose node is on the key's way: this one, if its node is, else the root's.
+    #[inline(always)]
+    pub(crate) fn way_from(&self, near: usize, key: &[u8; KEY_BYTES]) -> usize
+        requires { IsTree self.now }
+        ensures { OnWay self.now key.now (257 * result) }
+    {
+        match self.slab.get(near) {
+            Some(node) if node.is_prefix_of(key) => near,
+            _ => 0,
         }
     }
 

@@ -3,7 +3,7 @@ ghost use Rattle.std.specs.Prelude.{◌≡◌, ℕ, ◌+◌, ◌^◌, IfErr, OnO
 ghost use Rattle.std.specs.FinMap as map;
 ghost use Rattle.congee.specs.owned.Content.{KeepsCharge, Refuses};
 ghost use Rattle.congee.specs.owned.Iterating.{IsFirstIn};
-ghost use Rattle.congee.specs.owned.Nearest.{IsLeast, NoneFrom};
+ghost use Rattle.congee.specs.owned.Nearest.{IsGreatest, IsLeast, NoneFrom};
 ghost use Rattle.congee.specs.owned.Several.{Lightens};
 
 use crate::allocator::{Allocator, OOMError};
@@ -30,6 +30,20 @@ impl<K: Word64, V: Word64, A: Allocator, D: Drop> Congee<K, V, A, D> {
         }
     }
 
+    /// The pair of the greatest number up to one, that included.
+    pub(super) fn numbers_to(&self, last: u64) -> Option<(u64, u64)>
+        ensures { IsGreatest self.now.pairs (last + 1) result }
+    {
+        self.arena.last_to(last)
+    }
+
+    /// No key is past the greatest number of 64 bits.
+    pub(super) fn words_end(&self)
+        ensures { NoneFrom self.now.pairs (2 ^ 64) }
+    {
+        self.arena.words_end();
+    }
+
     /// Puts a value's number at a key's. A refused call changes nothing.
     pub(super) fn insert_number(&mut self, key: u64, value: u64) -> Result<(), OOMError>
         ensures pairs { OnOk result (self.new.pairs ≡ map.insert self.old.pairs key value) }
@@ -40,6 +54,25 @@ impl<K: Word64, V: Word64, A: Allocator, D: Drop> Congee<K, V, A, D> {
         let bytes = bytes_of_key(&key);
         match self.arena.insert(self.alloc, &bytes, value) {
             Ok(_) => Ok(()),
+            Err((e, _)) => Err(e),
+        }
+    }
+
+    /// The same. It goes from where the way of the key before ended, if that is on this key's way, and tells where this one ended.
+    pub(super) fn insert_number_near(
+        &mut self,
+        near: usize,
+        key: u64,
+        value: u64,
+    ) -> Result<usize, OOMError>
+        ensures pairs { OnOk result (self.new.pairs ≡ map.insert self.old.pairs key value) }
+        ensures refused { IfErr result (Refuses A.charged_of A.limit_of self.old self.new key) }
+        ensures keeps { KeepsCharge A.charged_of A.limit_of self.old self.new }
+        ensures base { self.new.base ≡ self.old.base }
+    {
+        let bytes = bytes_of_key(&key);
+        match self.arena.insert_near(self.alloc, near, &bytes, value) {
+            Ok(slot) => Ok(slot),
             Err((e, _)) => Err(e),
         }
     }

@@ -1,5 +1,5 @@
 //! The calls on an arena as those on a map.
-ghost use Rattle.std.specs.Prelude.{◌≡◌, ◌+◌, ◌≤◌, ◌^◌, ℕ, false, List, None, Some, IfOk, IfErr};
+ghost use Rattle.std.specs.Prelude.{◌≡◌, ◌+◌, ◌*◌, ◌≤◌, ◌^◌, ℕ, false, List, Option, None, Some, IfOk, IfErr, OnOk};
 ghost use Rattle.std.specs.Option.{option_copied};
 ghost use Rattle.congee.specs.Heap.{value_at};
 ghost use Rattle.congee.specs.forms.Forms.{size_of};
@@ -15,6 +15,7 @@ ghost use Rattle.congee.specs.owned.Going.{goes_at, going_by};
 ghost use Rattle.congee.specs.owned.Sizes.{bytes_of};
 ghost use Rattle.congee.specs.owned.Stats.{root_alone};
 ghost use Rattle.congee.specs.owned.OwnedSteps.{IsRefusal, settled};
+ghost use Rattle.congee.specs.owned.Place.{Ends, IsOpen};
 ghost use Rattle.congee.specs.owned.Wanted.{WantsLeaf, wants_at, wants_of};
 
 use crate::allocator::{Allocator, OOMError};
@@ -22,6 +23,7 @@ use crate::forms::base_node::NodeType;
 use crate::keys::{KEY_BYTES, key_of_bytes};
 use crate::owned::arena::{Arena, Stored};
 use crate::owned::inner::Inner;
+use crate::owned::names::Name;
 use crate::owned::nodes::Nodes;
 use crate::owned::place::{Onward, Place, Spot};
 use std::alloc::Global;
@@ -99,15 +101,17 @@ impl<P: Stored, A: Allocator> Arena<P, A> {
         }
     }
 
-    /// Puts a value at a key, and gives the one before. A refused value comes back. The caller counts.
+    /// Puts a value at the end of a key's way, and gives the one before. A refused value comes back. The caller counts.
     #[inline(always)]
     fn put(
         &mut self,
         alloc: Global,
+        place: Place,
         key: &[u8; KEY_BYTES],
         value: P,
     ) -> Result<Option<P>, (OOMError, P)>
         requires tree { IsTree self.old.nodes }
+        requires ends { Ends self.old.nodes key.now place }
         requires covered { Covers A.charged_of self.old }
         ensures adds { IfOk result (λ before. Adds A.charged_of A.limit_of self.old self.new
             key.now before value (wants_at (heap_of self.old.nodes) key.now)) }
@@ -119,7 +123,7 @@ impl<P: Stored, A: Allocator> Arena<P, A> {
             at,
             spot,
             ..
-        } = self.locate(key);
+        } = place;
         match spot {
             Spot::Held => Ok(Some(self.replace(at, key, value))),
             Spot::Free => {
@@ -165,6 +169,40 @@ impl<P: Stored, A: Allocator> Arena<P, A> {
         }
     }
 
+    /// The same, and it counts.
+    #[inline(always)]
+    fn insert_at(
+        &mut self,
+        alloc: Global,
+        place: Place,
+        key: &[u8; KEY_BYTES],
+        value: P,
+    ) -> Result<Option<P>, (OOMError, P)>
+        requires tree { IsTree self.old.nodes }
+        requires ends { Ends self.old.nodes key.now place }
+        requires covered { Covers A.charged_of self.old }
+        requires counted { IsCounted self.old }
+        ensures adds { IfOk result (λ before. Adds A.charged_of A.limit_of self.old self.new
+            key.now before value (wants_at (heap_of self.old.nodes) key.now)) }
+        ensures refused { IfErr result (Denies A.charged_of A.limit_of self.old self.new
+            key.now value (wants_at (heap_of self.old.nodes) key.now)) }
+        ensures counted { IsCounted self.new }
+    {
+        // Its bytes are those of a number.
+        let _number = key_of_bytes(key);
+        let pairs = self.pairs;
+        match self.put(alloc, place, key, value) {
+            Ok(before) => {
+                self.pairs = counted_in(pairs, &before);
+                Ok(before)
+            }
+            Err(refused) => {
+                self.pairs = pairs;
+                Err(refused)
+            }
+        }
+    }
+
     /// Puts a value at a key, and gives the one before. A refused value comes back.
     pub(crate) fn insert(
         &mut self,
@@ -181,19 +219,75 @@ impl<P: Stored, A: Allocator> Arena<P, A> {
             key.now value (wants_at (heap_of self.old.nodes) key.now)) }
         ensures counted { IsCounted self.new }
     {
+        let place = self.locate(key);
+        self.insert_at(alloc, place, key, value)
+    }
+
+    /// The same, from the slot where the way of the key before ended, if its node is on this key's way. Tells where this one ended.
+    #[inline(always)]
+    pub(crate) fn insert_near(
+        &mut self,
+        alloc: Global,
+        near: usize,
+        key: &[u8; KEY_BYTES],
+        value: P,
+    ) -> Result<usize, (OOMError, P)>
+        requires tree { IsTree self.old.nodes }
+        requires covered { Covers A.charged_of self.old }
+        requires counted { IsCounted self.old }
+        ensures adds { OnOk result ((before : Option P) × Adds A.charged_of A.limit_of self.old self.new
+            key.now before value (wants_at (heap_of self.old.nodes) key.now)) }
+        ensures refused { IfErr result (Denies A.charged_of A.limit_of self.old self.new
+            key.now value (wants_at (heap_of self.old.nodes) key.now)) }
+        ensures counted { IsCounted self.new }
+    {
+        if self.nodes.is_open(near, key) {
+            self.insert_here(near, key, value);
+            return Ok(near);
+        }
+        self.insert_from(alloc, near, key, value)
+    }
+
+    /// The same where that is no open leaf of the key's.
+    #[inline(never)]
+    fn insert_from(
+        &mut self,
+        alloc: Global,
+        near: usize,
+        key: &[u8; KEY_BYTES],
+        value: P,
+    ) -> Result<usize, (OOMError, P)>
+        requires tree { IsTree self.old.nodes }
+        requires covered { Covers A.charged_of self.old }
+        requires counted { IsCounted self.old }
+        ensures adds { OnOk result ((before : Option P) × Adds A.charged_of A.limit_of self.old self.new
+            key.now before value (wants_at (heap_of self.old.nodes) key.now)) }
+        ensures refused { IfErr result (Denies A.charged_of A.limit_of self.old self.new
+            key.now value (wants_at (heap_of self.old.nodes) key.now)) }
+        ensures counted { IsCounted self.new }
+    {
+        let from = self.nodes.way_from(near, key);
+        let place = self.locate_from(from, key);
+        let slot = place.at.slot;
+        self.insert_at(alloc, place, key, value)?;
+        Ok(slot)
+    }
+
+    /// Puts a value into the leaf in a slot, which is open for the key.
+    #[inline(always)]
+    fn insert_here(&mut self, slot: usize, key: &[u8; KEY_BYTES], value: P)
+        requires tree { IsTree self.old.nodes }
+        requires open { IsOpen self.old.nodes key.now (257 * slot) }
+        requires counted { IsCounted self.old }
+        ensures adds { Adds A.charged_of A.limit_of self.old self.new
+            key.now None value (wants_at (heap_of self.old.nodes) key.now) }
+        ensures counted { IsCounted self.new }
+    {
         // Its bytes are those of a number.
         let _number = key_of_bytes(key);
-        let pairs = self.pairs;
-        match self.put(alloc, key, value) {
-            Ok(before) => {
-                self.pairs = counted_in(pairs, &before);
-                Ok(before)
-            }
-            Err(refused) => {
-                self.pairs = pairs;
-                Err(refused)
-            }
-        }
+        let pairs = counted_in::<P>(self.pairs, &None);
+        self.add_here(Name::of(slot), key, value);
+        self.pairs = pairs;
     }
 
     /// Takes a key's value out, and what goes with it.

@@ -4,7 +4,7 @@ ghost use Rattle.std.specs.FinMap as map;
 ghost use Rattle.congee.specs.Keys.{key_bytes};
 ghost use Rattle.congee.specs.owned.Arena.{IsTree};
 ghost use Rattle.congee.specs.owned.Iterating.{IsFirstIn, IsLastBefore};
-ghost use Rattle.congee.specs.owned.Nearest.{IsLeast, IsLeastIn, IsLeastPair, IsGreatest, IsGreatestIn, IsGreatestPair};
+ghost use Rattle.congee.specs.owned.Nearest.{IsLeast, IsLeastIn, IsLeastPair, IsGreatest, IsGreatestIn, IsGreatestPair, NoneBelow, NoneFrom};
 ghost use Rattle.congee.specs.owned.Cursor.{IsAt, steps_left};
 ghost use Rattle.congee.specs.owned.Table.{pairs_of};
 ghost use Rattle.congee.specs.owned.Ranges.{entries_by, in_range, keys_by};
@@ -213,6 +213,29 @@ impl<P: Stored, A: Allocator> Arena<P, A> {
     {
         self.next_along(&mut self.beginning())
     }
+
+    /// The pair of the least key from a number on.
+    pub(crate) fn pair_from(&self, from: u64) -> Option<(u64, &P)>
+        requires { IsTree self.now.nodes }
+        ensures { MatchOption result (NoneFrom (pairs_of self.now.nodes) from)
+            (λ r. IsLeastPair (pairs_of self.now.nodes) from r.0 r.1.now) }
+    {
+        self.next_along(&mut self.seek(from))
+    }
+
+    /// The pair of the greatest key up to a number, itself included.
+    pub(crate) fn pair_to(&self, last: u64) -> Option<(u64, &P)>
+        requires { IsTree self.now.nodes }
+        ensures { MatchOption result (NoneBelow (pairs_of self.now.nodes) (last + 1))
+            (λ r. IsGreatestPair (pairs_of self.now.nodes) (last + 1) r.0 r.1.now) }
+    {
+        self.back_along(&mut self.seek_past(last))
+    }
+
+    /// No key is past the greatest number of 64 bits.
+    pub(crate) fn words_end(&self)
+        ensures { NoneFrom (pairs_of self.now.nodes) (2 ^ 64) }
+    {}
 
     /// All keys, ascending.
     pub(crate) fn keys<K: Word64>(&self, alloc: Global) -> Result<Vec<K, Global>, AllocError>

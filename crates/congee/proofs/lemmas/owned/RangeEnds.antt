@@ -58,3 +58,7 @@ module _ {X : Type 0} where
   -- where the least pair lies past the range, it has none
   pub range_past : (m : map.FinMap nat_cmp X) (start end k : ℕ) (x : X) → IsLeastPair m start k x → end ≤ k → in_range start end (map.entries m) ≡ []
   range_past m start end k x g l = range_none m start end (λ q a b. g.before q a (omega (arith, b, l)))
+
+  -- a range starts as one does before whose start no key has a value
+  pub range_after : (m : map.FinMap nat_cmp X) (start n end : ℕ) → start ≤ n → n ≤ end → ((q : ℕ) → start ≤ q → q < n → map.get m q ≡ None) → in_range start end (map.entries m) ≡ in_range n end (map.entries m)
+  range_after m start n end l h none = split_at start n end (map.entries m) (rises_entries m) l h ∙ ap (λ r. r ++ in_range n end (map.entries m)) (range_none m start n none)

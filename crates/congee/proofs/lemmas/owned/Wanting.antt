@@ -10,7 +10,7 @@ use Rattle.congee.specs.forms.Forms.{form_of, prefix_of, children_of, size_of, n
 use Rattle.congee.specs.owned.Arena.{Nodes, hung_in, heap_of, node_of, IsTree, OnWay, Hangs}
 use Rattle.congee.specs.Keys.{key_bytes}
 use Rattle.congee.specs.owned.OwnedSteps.{SameNodes, Sets, IsRefusal}
-use Rattle.congee.specs.owned.Place.{Located, EndsAt}
+use Rattle.congee.specs.owned.Place.{Ends, EndsAt, IsOpen}
 use Rattle.congee.specs.declared.owned.place.Place.{Place}
 use Rattle.congee.specs.declared.owned.place.Spot.{Spot}
 use Rattle.congee.specs.declared.owned.place.Spot.TheVariants.{Held, Free, Apart}
@@ -25,7 +25,6 @@ use Rattle.congee.proofs.lemmas.owned.Tables.{table_below}
 use Rattle.congee.proofs.lemmas.Tree.{down_to}
 use Rattle.congee.proofs.lemmas.owned.Ways.{linked_of, above_apart}
 use Rattle.congee.proofs.lemmas.owned.Moves.{node_at}
-use Rattle.congee.proofs.lemmas.owned.Answered.{located_held}
 
 module _ {V X : Type 0} (apart : X) (last : Node V → Hung V → X) where
   end_same : (f g : ℕ → X) (n : Node V) (x : Hung V) → ((c : ℕ) → x ≡ Below c → f c ≡ g c) → at_end last n f x ≡ at_end last n g x
@@ -175,23 +174,32 @@ module _ {P : Type 0} where
       inr (f, subst Q3 el (subst Q2 ec (subst Q1 en r)))
 
   -- what the end of a key's way tells of its insertion
-  pub located_wants_held : (s : Nodes P) (key : List ℕ) (p : Place) → IsTree s → Located s key p → p.spot ≡ Held → wants_at (heap_of s) key ≡ None
-  located_wants_held s key p t l e =
-      let h = located_held s key p t l e in
-      wants_held s key p.at h.value t l.reached.way h.holds
+  pub ends_wants_held : (s : Nodes P) (key : List ℕ) (p : Place) → IsTree s → Ends s key p → p.spot ≡ Held → wants_at (heap_of s) key ≡ None
+  ends_wants_held s key p t l e =
+      let E : Spot → Type 0 = λ x. EndsAt s key p.at x in
+      let d : EndsAt s key p.at Held = subst E e l.ends in
+      wants_held s key p.at d.0 t l.way d.1
 
   -- where a key's place is free, its insertion makes what the last node's free byte takes
-  pub located_wants_free : (s : Nodes P) (key : List ℕ) (p : Place) → IsTree s → Located s key p → p.spot ≡ Free → wants_at (heap_of s) key ≡ Some (free_wants (heap_of s p.at))
-  located_wants_free s key p t l e =
+  pub ends_wants_free : (s : Nodes P) (key : List ℕ) (p : Place) → IsTree s → Ends s key p → p.spot ≡ Free → wants_at (heap_of s) key ≡ Some (free_wants (heap_of s p.at))
+  ends_wants_free s key p t l e =
       let E : Spot → Type 0 = λ x. EndsAt s key p.at x in
-      wants_free s key p.at t l.reached.way (subst E e l.ends)
+      wants_free s key p.at t l.way (subst E e l.ends)
 
   -- where a key's place is beside a node with another prefix, its insertion makes two least nodes
-  pub located_wants_apart : (s : Nodes P) (key : List ℕ) (p : Place) (c : ℕ) → IsTree s → Located s key p → p.spot ≡ Apart c → wants_at (heap_of s) key ≡ Some (64 ∷ 64 ∷ [])
-  located_wants_apart s key p c t l e =
+  pub ends_wants_apart : (s : Nodes P) (key : List ℕ) (p : Place) (c : ℕ) → IsTree s → Ends s key p → p.spot ≡ Apart c → wants_at (heap_of s) key ≡ Some (64 ∷ 64 ∷ [])
+  ends_wants_apart s key p c t l e =
       let E : Spot → Type 0 = λ x. EndsAt s key p.at x in
       let d : EndsAt s key p.at (Apart c) = subst E e l.ends in
-      wants_apart s key p.at c t l.reached.way d.0 d.1
+      wants_apart s key p.at c t l.way d.0 d.1
+
+  -- an insertion into an open leaf makes no node
+  pub open_wants : (s : Nodes P) (key : List ℕ) (n : ℕ) → IsTree s → IsOpen s key n → wants_at (heap_of s) key ≡ Some []
+  open_wants s key n t o =
+      let y = node_at s n o.way.stands in
+      let h : heap_of s n ≡ node_of (Some y.0) = ap node_of y.1 in
+      let r : room_for (heap_of s n) ≡ [] = ap room_for h ∙ roomy_none y.0 (o.room y.0 y.1) in
+      wants_free s key n t o.way o.free ∙ ap Some (free_leaf (heap_of s n) o.leaf ∙ r)
 
   -- what the map of wants has for a key is what its insertion makes
   pub get_wants : (s : Nodes P) (k : ℕ) → k < 2 ^ 64 → map.get (wants_of s) k ≡ wants_at (heap_of s) (key_bytes k)

@@ -23,27 +23,27 @@ module _ {P : Type 0} (s : Nodes P) (at : ℕ) (stands : ContainsKey s at) (b : 
   told_inner t e = let a = told_apart e in let l = short_prefix s t at stands in omega (arith, a, l)
 
 pub add_value-requires-clause-leaf : goal.add_value-requires-clause-leaf
-add_value-requires-clause-leaf g c = told_leaf c.args.self.now.nodes c.args.at c.requires.way.way.stands c.is_leaf.result c.is_leaf.ensures (search rules)
+add_value-requires-clause-leaf g c = told_leaf c.args.self.now.nodes c.args.at c.requires.way.stands c.is_leaf.result c.is_leaf.ensures (search rules)
 
 pub add_leaf-requires-clause-inner : goal.add_leaf-requires-clause-inner
-add_leaf-requires-clause-inner g c = told_inner c.args.self.now.nodes c.args.at c.requires.way.way.stands c.is_leaf.result c.is_leaf.ensures c.requires.tree (search rules)
+add_leaf-requires-clause-inner g c = told_inner c.args.self.now.nodes c.args.at c.requires.way.stands c.is_leaf.result c.is_leaf.ensures c.requires.tree (search rules)
 
 pub returns-then-is_leaf-clause-adds : goal.returns-then-is_leaf-clause-adds
 returns-then-is_leaf-clause-adds g c =
-    let leaf = told_leaf c.args.self.now.nodes c.args.at c.requires.way.way.stands c.is_leaf.result c.is_leaf.ensures (search rules) in
+    let leaf = told_leaf c.args.self.now.nodes c.args.at c.requires.way.stands c.is_leaf.result c.is_leaf.ensures (search rules) in
     rw (free_leaf (heap_of c.args.self.now.nodes c.args.at) leaf) c.add_value.ensures.adds
 
 pub returns-then-is_leaf-clause-refused : goal.returns-then-is_leaf-clause-refused
 returns-then-is_leaf-clause-refused g c =
-    let leaf = told_leaf c.args.self.now.nodes c.args.at c.requires.way.way.stands c.is_leaf.result c.is_leaf.ensures (search rules) in
+    let leaf = told_leaf c.args.self.now.nodes c.args.at c.requires.way.stands c.is_leaf.result c.is_leaf.ensures (search rules) in
     rw (free_leaf (heap_of c.args.self.now.nodes c.args.at) leaf) c.add_value.ensures.refused
 
 pub returns-else-is_leaf-clause-adds : goal.returns-else-is_leaf-clause-adds
 returns-else-is_leaf-clause-adds g c =
-    let inner = told_apart c.args.self.now.nodes c.args.at c.requires.way.way.stands c.is_leaf.result c.is_leaf.ensures (search rules) in
+    let inner = told_apart c.args.self.now.nodes c.args.at c.requires.way.stands c.is_leaf.result c.is_leaf.ensures (search rules) in
     rw (free_inner (heap_of c.args.self.now.nodes c.args.at) inner) c.add_leaf.ensures.adds
 
 pub returns-else-is_leaf-clause-refused : goal.returns-else-is_leaf-clause-refused
 returns-else-is_leaf-clause-refused g c =
-    let inner = told_apart c.args.self.now.nodes c.args.at c.requires.way.way.stands c.is_leaf.result c.is_leaf.ensures (search rules) in
+    let inner = told_apart c.args.self.now.nodes c.args.at c.requires.way.stands c.is_leaf.result c.is_leaf.ensures (search rules) in
     rw (free_inner (heap_of c.args.self.now.nodes c.args.at) inner) c.add_leaf.ensures.refused

@@ -17,8 +17,8 @@ loop-pair-preserved g c =
     let at = c.loop-pair in
     let past : IfSome at.last (λ n. n < c.to_word-number.result) = search rules in
     let next : c.saturating_add-place.result ≡ capped (at.place + 1) = search (rules, arith) in
-    built_next g.K.Word64.word g.V.Word64.word _ _ _ at.tree c.insert_number.new.self at.last at.place c.saturating_add-place.result at.yielded c.in-Some.pair c.to_word-number.result c.to_word.result at.invariant
-    c.to_word-number.ensures.number c.to_word.ensures.number past c.in_ok-insert_number.ensures.pairs c.in_ok-insert_number.ensures.keeps c.in_ok-insert_number.ensures.base next
+    built_next g.K.Word64.word g.V.Word64.word _ _ _ at.tree c.insert_number_near.new.self at.last at.place c.saturating_add-place.result at.yielded c.in-Some.pair c.to_word-number.result c.to_word.result at.invariant
+    c.to_word-number.ensures.number c.to_word.ensures.number past c.in_ok-near.ensures.pairs c.in_ok-near.ensures.keeps c.in_ok-near.ensures.base next
 
 pub returns-then-not-is_past-clause-refused : goal.returns-then-not-is_past-clause-refused
 returns-then-not-is_past-clause-refused g c =
@@ -29,9 +29,9 @@ returns-then-not-is_past-clause-refused g c =
     built_unsorted g.I.IntoIterator.into_iter_gives g.I.IntoIter.Iterator.next_gives g.K.Word64.word g.V.Word64.word _ _ _ at.tree at.last at.place at.yielded x c.args.pairs it.result c.next.new.self at.invariant never
     it.ensures.into_iter_gives (Yields-more g.I.IntoIter.Iterator.next_gives it.result at.yielded at.pair-iterator x c.next.new.self at.yielded_by c.in-Some.ensures.steps)
 
-pub returns-in_err-insert_number-clause-refused : goal.returns-in_err-insert_number-clause-refused
-returns-in_err-insert_number-clause-refused g c =
-    let p = err_from_is_err_and c.from_residual-in_err-insert_number.result c.from_residual-in_err-insert_number.ensures.1 in
+pub returns-in_err-near-clause-refused : goal.returns-in_err-near-clause-refused
+returns-in_err-near-clause-refused g c =
+    let p = err_from_is_err_and c.from_residual-in_err-near.result c.from_residual-in_err-near.ensures.1 in
     let at = c.loop-pair in
     let it = c.into_iter-pair-iterator in
     let x = c.in-Some.pair in
@@ -47,5 +47,5 @@ returns-in_err-insert_number-clause-refused g c =
         ascend = at.invariant.ascend;
       },
       at.invariant.holds,
-      record { over = at.invariant.over; cause = rw (← c.to_word-number.ensures.number) (lacks_old _ _ _ _ _ _ c.in_err-insert_number.ensures.refused) },
+      record { over = at.invariant.over; cause = rw (← c.to_word-number.ensures.number) (lacks_old _ _ _ _ _ _ c.in_err-near.ensures.refused) },
     ))

@@ -19,9 +19,9 @@ loop-next-preserved g c =
       (
         c.in-Some.key + 1,
         c.numbers_from-next-in-Some.ensures.least (c.in-Some.key + 1) c.number_after.ensures,
-        copied_more whole at.copy.pairs c.insert_number.new.self.pairs n c.in-Some.key c.in-Some.value c.in_ok-insert_number.ensures.pairs at.invariant.0.2 least,
+        copied_more whole at.copy.pairs c.insert_number_near.new.self.pairs n c.in-Some.key c.in-Some.value c.in_ok-near.ensures.pairs at.invariant.0.2 least,
       ),
-      over_then _ _ _ _ _ at.invariant.1 c.in_ok-insert_number.ensures.keeps c.in_ok-insert_number.ensures.base,
+      over_then _ _ _ _ _ at.invariant.1 c.in_ok-near.ensures.keeps c.in_ok-near.ensures.base,
     )
 
 pub loop-next-smaller : goal.loop-next-smaller
@@ -33,14 +33,14 @@ loop-next-smaller g c =
     let least = c.numbers_from-next-in-Some.ensures.least (c.in-Some.key + 1) c.number_after.ensures in
     subst (λ o. left_from c.numbers_from-next-in-Some.result < left_from o) (sym c.in-Some.is) (left_less c.args.self.now.pairs c.in-Some.key c.in-Some.value c.numbers_from-next-in-Some.result least small)
 
-pub returns-in_err-insert_number-clause-refused : goal.returns-in_err-insert_number-clause-refused
-returns-in_err-insert_number-clause-refused g c =
-    let p = err_from_is_err_and c.from_residual-in_err-insert_number.result c.from_residual-in_err-insert_number.ensures.1 in
+pub returns-in_err-near-clause-refused : goal.returns-in_err-near-clause-refused
+returns-in_err-near-clause-refused g c =
+    let p = err_from_is_err_and c.from_residual-in_err-near.result c.from_residual-in_err-near.ensures.1 in
     let at = c.loop-next in
     let n = at.invariant.0.0 in
     let whole = c.args.self.now in
     let least : IsLeastPair whole.pairs n c.in-Some.key c.in-Some.value = subst (λ o. IsLeast whole.pairs n o) c.in-Some.is at.invariant.0.1 in
-    let short = copy_short _ _ _ whole at.copy n c.in-Some.key c.in-Some.value _ at.invariant.0.2 least at.invariant.1 (lacks_old _ _ _ _ _ _ c.in_err-insert_number.ensures.refused) in
+    let short = copy_short _ _ _ whole at.copy n c.in-Some.key c.in-Some.value _ at.invariant.0.2 least at.invariant.1 (lacks_old _ _ _ _ _ _ c.in_err-near.ensures.refused) in
     rw (p.1, p.2) (inr (at.copy, c.in-Some.key, short.0, short.1, short.2))
 
 pub returns-clause-same : goal.returns-clause-same
