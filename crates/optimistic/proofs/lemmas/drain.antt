@@ -3,3 +3,4 @@ pub mod Leasts
 pub mod Ends
 pub mod Gives
 pub mod Lists
+pub mod Numbers

@@ -1,4 +1,5 @@
 pub mod Answers
+pub mod Keyed
 pub mod Knowing
 pub mod Logs
 pub mod Many

@@ -1,13 +1,13 @@
 -- What scans tell: pairs that stood at moments within the call. A moment is a log of decided calls that begins with all that the worker had
 -- seen when it called, and with which all begins that it has seen in the end.
-use Rattle.std.specs.Prelude.{◌≡◌, ◌≢◌, ◌⊎◌, ℕ, ◌+◌, ◌-◌, ◌^◌, ◌<◌, ◌≤◌, min, List, [], ◌∷◌, length, Bool, MatchBool, Option, None, Some}
+use Rattle.std.specs.Prelude.{◌≡◌, ◌≢◌, ◌⊎◌, ℕ, ◌+◌, ◌-◌, ◌^◌, ◌<◌, ◌≤◌, min, List, [], ◌∷◌, length, map, Bool, MatchBool, Option, None, Some}
 use Rattle.std.specs.List.{AllPairs, Contains}
 use Rattle.optimistic.specs.declared.drain.nexts.Pair.{Pair}
 use Rattle.optimistic.specs.declared.words.rule.Entry.{Entry}
 use Rattle.optimistic.specs.words.Kept.{value_of, StartsWith}
 use Rattle.optimistic.specs.tree.Drained.{pair_of}
 use Rattle.optimistic.specs.declared.tree.trail.Told.{Told}
-use Rattle.optimistic.specs.tree.Nexts.{IsFirst, IsLast, HasNone}
+use Rattle.optimistic.specs.tree.Nexts.{IsFirst, IsLast, IsFirstIn, IsLastIn, HasNone}
 use Rattle.optimistic.specs.tree.Trails.{Says}
 use Rattle.optimistic.specs.tree.Wholes.{IsRange}
 use Rattle.optimistic.specs.face.Calls.{Known, Looked}
@@ -30,6 +30,13 @@ ToldOf from t v w = Looked v w × Once (λ log. Says log from t) v w
 -- at one moment this was the last pair below a key, or there was none
 abbrev pub LastBelow : ℕ → Option Pair → Known → Known → Type 0
 LastBelow to r v w = Looked v w × Once (λ log. IsLast log to r) v w
+
+-- at one moment this was the first pair from a key on and below another, or the last one, or there was none
+abbrev pub FirstIn : (from to : ℕ) → Option Pair → Known → Known → Type 0
+FirstIn from to r v w = Looked v w × Once (λ log. IsFirstIn log from to r) v w
+
+abbrev pub LastIn : (from to : ℕ) → Option Pair → Known → Known → Type 0
+LastIn from to r v w = Looked v w × Once (λ log. IsLastIn log from to r) v w
 
 -- at one moment no key had a value, or some key had one
 abbrev pub Emptiness : Bool → Known → Known → Type 0
@@ -63,3 +70,10 @@ pub record IsScan (from to places : ℕ) (v w : Known) (pairs : List Pair) : Typ
 -- a scan of the keys from one on and below another, with places for more than there are, finds so many pairs, or more than 64 bits can count
 abbrev pub Counts : (from to : ℕ) → ℕ → Known → Known → Type 0
 Counts from to n v w = (pairs : List Pair) × IsScan from to (length pairs + 1) v w pairs × (n ≡ min (length pairs) (2 ^ 64 - 1))
+
+-- these are the keys of what a scan finds
+abbrev pub keys_of : List Pair → List ℕ
+keys_of pairs = map (λ (p : Pair). p.key) pairs
+
+abbrev pub AreKeys : (from to places : ℕ) → Known → Known → List ℕ → Type 0
+AreKeys from to places v w keys = (pairs : List Pair) × IsScan from to places v w pairs × (keys ≡ keys_of pairs)

@@ -1,5 +1,5 @@
 -- The pairs of a tree that is closed.
-use Rattle.std.specs.Prelude.{◌≡◌, ◌≢◌, ◌⊎◌, ℕ, ◌^◌, ◌<◌, ◌≤◌, List, Some, unwrap_or}
+use Rattle.std.specs.Prelude.{◌≡◌, ◌≢◌, ◌⊎◌, ℕ, ◌-◌, ◌^◌, ◌<◌, ◌≤◌, min, List, length, Some, unwrap_or}
 use Rattle.std.specs.List.{AllPairs, Contains, FoldsTo}
 use Rattle.optimistic.specs.declared.drain.nexts.Pair.{Pair}
 use Rattle.optimistic.specs.declared.drain.pairs.Pairs.{Pairs}
@@ -56,6 +56,10 @@ pub record IsAll (seen made : List Entry) (by : ℕ) (pairs : List Pair) : Type 
   pub log : List Entry
   pub told : IsDrained log 0 (2 ^ 64) pairs
   pub comes : Comes log seen made by
+
+-- so many pairs of which this holds, or more than 64 bits can count
+abbrev pub IsNumber : (List Pair → Type 0) → ℕ → Type 0
+IsNumber P n = (pairs : List Pair) × P pairs × (n ≡ min (length pairs) (2 ^ 64 - 1))
 
 -- a closure was given these pairs, one after the other
 abbrev pub Given : {F : Type 0} → (F → ℕ → ℕ → F → Type 0) → F → List Pair → F → Type 0

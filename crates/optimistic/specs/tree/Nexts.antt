@@ -87,3 +87,12 @@ IsFirst log from (Some p) = (from ≤ p.key) × (value_of p.key log ≡ Some p.v
 abbrev pub IsLast : List Entry → ℕ → Option Pair → Type 0
 IsLast log to None = HasNone log 0 to
 IsLast log to (Some p) = (p.key < to) × (value_of p.key log ≡ Some p.value) × HasNone log (p.key + 1) to
+
+-- the first pair from a key on and below another, and the last one
+abbrev pub IsFirstIn : List Entry → (from to : ℕ) → Option Pair → Type 0
+IsFirstIn log from to None = HasNone log from to
+IsFirstIn log from to (Some p) = IsFirst log from (Some p) × (p.key < to)
+
+abbrev pub IsLastIn : List Entry → (from to : ℕ) → Option Pair → Type 0
+IsLastIn log from to None = HasNone log from to
+IsLastIn log from to (Some p) = IsLast log to (Some p) × (from ≤ p.key)

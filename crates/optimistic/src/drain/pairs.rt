@@ -36,7 +36,7 @@ impl Pairs {
     ghost use Rattle.std.specs.Prelude.{List};
     ghost use Rattle.optimistic.specs.declared.words.rule.Entry.{Entry};
     ghost use Rattle.optimistic.specs.tree.Nexts.{IsFirst, behind};
-    ghost use Rattle.optimistic.specs.tree.Drained.{rest, HasLog, IsDrained, IsClosed, IsAll, IsLocked, IsCause, Gave, GaveAll};
+    ghost use Rattle.optimistic.specs.tree.Drained.{rest, HasLog, IsDrained, IsClosed, IsAll, IsNumber, IsLocked, IsCause, Gave, GaveAll};
 
     /// All pairs of these words.
     pub(crate) fn new(words: Words) -> Pairs
@@ -72,6 +72,28 @@ impl Pairs {
             },
             None => Ok(None),
         }
+    }
+
+    /// How many pairs weren't told before: at first, how many the index has. All stays as it was. The greatest number of 64 bits
+    /// stands for any greater one. An error tells that some node is locked.
+    pub fn count(&self) -> Result<u64, Locked>
+        ensures pairs { (log : List Entry) → HasLog self.now log → IfOk result (λ n. IsNumber (IsDrained log (rest self.now) (2 ^ 64)) n) }
+        ensures all { (seen made : List Entry) (by : ℕ) → IsClosed seen made by self.now → IfOk result (λ n. IsNumber (IsAll seen made by) n) }
+        ensures locked { IfErr result (λ _. IsLocked self.now) }
+    {
+        let mut from = self.from;
+        let mut count = 0u64;
+        while let Some(key) = from {
+            match first_from(&self.words, key) {
+                Ok(Some(pair)) => {
+                    count = count.saturating_add(1);
+                    from = key_after(pair.key);
+                }
+                Ok(None) => from = None,
+                Err(Locked) => return Err(Locked),
+            }
+        }
+        Ok(count)
     }
 
     /// All pairs that weren't told before, in ascending order of keys: at first, all pairs of the index. An error leaves all as it

@@ -7,7 +7,7 @@ ghost use Rattle.optimistic.specs.face.Calls.{Saw, Looked, Found};
 ghost use Rattle.optimistic.specs.face.Computes.{IsComputed, IsReplaced};
 ghost use Rattle.optimistic.specs.face.Many.{Answered, AreInserted, IsSameWorker};
 ghost use Rattle.optimistic.specs.face.Refusals.{IsSize, IsUnopened};
-ghost use Rattle.optimistic.specs.face.Scans.{FirstFrom, LastBelow, Emptiness, IsScan, Counts, RangeAtOnce};
+ghost use Rattle.optimistic.specs.face.Scans.{FirstFrom, LastBelow, FirstIn, LastIn, Emptiness, IsScan, AreKeys, Counts, RangeAtOnce};
 ghost use Rattle.optimistic.specs.face.Walks.{IsStep};
 ghost use Rattle.optimistic.specs.face.Writes.{IsInserted, IsRemoved, IsExchanged, IsFinal};
 ghost use Rattle.optimistic.specs.face.Words.{As, words, either_words, pair_words, in_words};
@@ -293,6 +293,20 @@ impl<'t, K: Word64, V: Word64> WordWorker<'t, K, V> {
         pair_words(self.worker.next_before(rt, key.to_word()))
     }
 
+    /// The pair with the least key of start <= key <= last, or `None` if there was none, at one moment within the call.
+    pub fn first_in<R: Wait>(&mut self, rt: &R, start: &K, last: &K) -> Option<(K, V)>
+        ensures { As (λ r. FirstIn (K.word start.now) (K.word last.now + 1) r self.old self.new) (pair_words K.of_word V.of_word) result }
+    {
+        pair_words(self.worker.first_in(rt, start.to_word(), last.to_word()))
+    }
+
+    /// The pair with the greatest key of start <= key <= last, or `None` if there was none, at one moment within the call.
+    pub fn last_in<R: Wait>(&mut self, rt: &R, start: &K, last: &K) -> Option<(K, V)>
+        ensures { As (λ r. LastIn (K.word start.now) (K.word last.now + 1) r self.old self.new) (pair_words K.of_word V.of_word) result }
+    {
+        pair_words(self.worker.last_in(rt, start.to_word(), last.to_word()))
+    }
+
     /// Whether no key had a value, at one moment within the call.
     pub fn is_empty<R: Wait>(&mut self, rt: &R) -> bool
         ensures { Emptiness result self.old self.new }
@@ -327,6 +341,17 @@ impl<'t, K: Word64, V: Word64> WordWorker<'t, K, V> {
     {
         self.worker
             .range_inclusive(rt, start.to_word(), last.to_word(), out)
+    }
+
+    /// Writes the keys with start <= key <= last that have a value into `out`, as words, ascending, and gives their number: those of
+    /// the pairs that `range_inclusive` tells.
+    pub fn keys<R: Wait>(&mut self, rt: &R, start: &K, last: &K, out: &mut [u64]) -> usize
+        ensures keys { AreKeys (K.word start.now) (K.word last.now + 1) (length out.old) self.old self.new (take result out.new) }
+        ensures count { result ≤ length out.new }
+        ensures saw { Saw self.old self.new }
+        ensures past { drop result out.new ≡ drop result out.old }
+    {
+        self.worker.keys(rt, start.to_word(), last.to_word(), out)
     }
 
     /// How many pairs with start <= key <= last a scan finds. Each stood at a moment within the call, and a key that stood

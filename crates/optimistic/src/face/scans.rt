@@ -4,7 +4,7 @@
 //! it and the key that was asked for. Of a range it is one for each pair, and these moments rise.
 ghost use Rattle.std.specs.Prelude.{◌≡◌, ℕ, ◌+◌, ◌≤◌, ◌^◌, length, take, drop};
 ghost use Rattle.optimistic.specs.face.Calls.{Saw};
-ghost use Rattle.optimistic.specs.face.Scans.{FirstFrom, LastBelow, Emptiness, IsScan, Counts, ToldOf};
+ghost use Rattle.optimistic.specs.face.Scans.{FirstFrom, LastBelow, FirstIn, LastIn, Emptiness, IsScan, AreKeys, Counts, ToldOf};
 ghost use Rattle.optimistic.specs.tree.Trails.{IsTrail};
 
 use crate::drain::Pair;
@@ -68,6 +68,32 @@ impl<'t> Worker<'t> {
         }
     }
 
+    /// The pair with the least key of start <= key <= last, or `None` if there was none, at one moment within the call.
+    pub fn first_in<R: Wait>(&mut self, rt: &R, start: u64, last: u64) -> Option<Pair>
+        ensures { FirstIn start (last + 1) result self.old self.new }
+    {
+        let Some(pair) = self.at_or_after(rt, start) else {
+            return None;
+        };
+        if pair.key > last {
+            return None;
+        }
+        Some(pair)
+    }
+
+    /// The pair with the greatest key of start <= key <= last, or `None` if there was none, at one moment within the call.
+    pub fn last_in<R: Wait>(&mut self, rt: &R, start: u64, last: u64) -> Option<Pair>
+        ensures { LastIn start (last + 1) result self.old self.new }
+    {
+        let Some(pair) = self.at_or_before(rt, last) else {
+            return None;
+        };
+        if pair.key < start {
+            return None;
+        }
+        Some(pair)
+    }
+
     /// Whether no key had a value, at one moment within the call.
     pub fn is_empty<R: Wait>(&mut self, rt: &R) -> bool
         ensures { Emptiness result self.old self.new }
@@ -125,6 +151,42 @@ impl<'t> Worker<'t> {
             match self.told_of(rt, &mut trail, from) {
                 Told::Value(value) => {
                     out[count] = Pair { key: from, value };
+                    count += 1;
+                    if from == last {
+                        return count;
+                    }
+                    from += 1;
+                }
+                Told::NoneTo(to) => {
+                    if to >= last {
+                        return count;
+                    }
+                    from = to + 1;
+                }
+            }
+        }
+        count
+    }
+
+    /// Writes the keys with start <= key <= last that have a value into `out`, ascending, and gives their number: those of the pairs
+    /// that `range_inclusive` tells. `congee`'s `keys` tells all; here `0` and `u64::MAX` do, and where the places are filled a scan
+    /// goes on from behind the last key.
+    pub fn keys<R: Wait>(&mut self, rt: &R, start: u64, last: u64, out: &mut [u64]) -> usize
+        ensures keys { AreKeys start (last + 1) (length out.old) self.old self.new (take result out.new) }
+        ensures count { result ≤ length out.new }
+        ensures saw { Saw self.old self.new }
+        ensures past { drop result out.new ≡ drop result out.old }
+    {
+        if start > last {
+            return 0;
+        }
+        let mut trail = self.tree.trail(&self.hand);
+        let mut from = start;
+        let mut count = 0;
+        while count < out.len() {
+            match self.told_of(rt, &mut trail, from) {
+                Told::Value(_) => {
+                    out[count] = from;
                     count += 1;
                     if from == last {
                         return count;

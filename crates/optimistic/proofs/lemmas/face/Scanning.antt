@@ -15,7 +15,7 @@ use Rattle.optimistic.specs.tree.Nexts.{HasNone}
 use Rattle.optimistic.specs.tree.Wholes.{IsRange}
 use Rattle.optimistic.specs.face.Calls.{Known, Saw}
 use Rattle.optimistic.specs.declared.tree.trail.Told.TheVariants.{Value, NoneTo}
-use Rattle.optimistic.specs.face.Scans.{Once, FirstFrom, Emptiness, Rise, StoodThroughout, HasKey, IsScan, Counts, ToldOf}
+use Rattle.optimistic.specs.face.Scans.{Once, FirstFrom, LastBelow, FirstIn, LastIn, Emptiness, Rise, StoodThroughout, HasKey, IsScan, Counts, ToldOf}
 use Rattle.optimistic.proofs.lemmas.face.Knowing.{saw_refl, saw_trans}
 use Rattle.optimistic.proofs.lemmas.drain.Keys.{no_pair}
 use Rattle.optimistic.proofs.lemmas.drain.Lists.{drained_none, only_one}
@@ -218,19 +218,32 @@ walk_none from last v w small f = record { log = f.1.log; after = f.1.after; bef
 pub walk_past : (from last : ℕ) (p : Pair) (v w : Known) → last < p.key → FirstFrom from (Some p) v w → Once (λ log. HasNone log from (last + 1)) v w
 walk_past from last p v w past f = record { log = f.1.log; after = f.1.after; before = f.1.before; holds = λ k above below. f.1.holds.2 k above (omega (arith, below, past)) }
 
--- a count of no key, of one pair more, and at the end
+-- the last pair below a key, told or not, of those from another key on
+pub last_none : (from to : ℕ) (v w : Known) → LastBelow to None v w → LastIn from to None v w
+last_none from to v w l = (l.0, record { log = l.1.log; after = l.1.after; before = l.1.before; holds = λ k above below. l.1.holds k (omega arith) below })
+
+pub last_past : (from to : ℕ) (p : Pair) (v w : Known) → p.key < from → LastBelow to (Some p) v w → LastIn from to None v w
+last_past from to p v w past l = (l.0, record { log = l.1.log; after = l.1.after; before = l.1.before; holds = λ k above below. l.1.holds.2 k (omega (arith, above, past)) below })
+
+pub last_there : (from to : ℕ) (p : Pair) (v w : Known) → from ≤ p.key → LastBelow to (Some p) v w → LastIn from to (Some p) v w
+last_there from to p v w there l = (l.0, record { log = l.1.log; after = l.1.after; before = l.1.before; holds = (l.1.holds, there) })
+
+-- the first pair from a key on, of those up to another
+pub first_there : (from last : ℕ) (p : Pair) (v w : Known) → p.key ≤ last → FirstFrom from (Some p) v w → FirstIn from (last + 1) (Some p) v w
+first_there from last p v w there f = (f.0, record { log = f.1.log; after = f.1.after; before = f.1.before; holds = (f.1.holds, omega (arith, there)) })
+
+-- a scan of no key, and its count
+pub scan_none : (from to places : ℕ) (v : Known) → to ≤ from → IsScan from to places v v []
+scan_none from to places v order = record {
+  few = omega arith;
+  ascending = λ i j d l m. absurd (omega arith);
+  inside = λ p c. let l = c.1 in absurd (omega arith);
+  stood = ([], sym (append-nil v.seen));
+  all = λ key above below stands. absurd (omega (arith, above, below, order));
+}
+
 pub counts_none : (from to : ℕ) (v : Known) → to ≤ from → Counts from to 0 v v
-counts_none from to v order = (
-  [],
-  record {
-    few = omega arith;
-    ascending = λ i j d l m. absurd (omega arith);
-    inside = λ p c. let l = c.1 in absurd (omega arith);
-    stood = ([], sym (append-nil v.seen));
-    all = λ key above below stands. absurd (omega (arith, above, below, order));
-  },
-  refl,
-)
+counts_none from to v order = ([], scan_none from to 1 v order, refl)
 
 -- the keys up to the next that is to be asked for have so many pairs, or more than 64 bits can count
 abbrev pub IsCounted : (from next n : ℕ) → Known → Known → Type 0
