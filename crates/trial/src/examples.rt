@@ -44,5 +44,7 @@ pub mod tallies;
 #[cfg(test)]
 pub mod threaded;
 #[cfg(test)]
+pub mod timed;
+#[cfg(test)]
 pub mod unlocked;
 pub mod versions;

@@ -1,16 +1,18 @@
 //! What a user of the shared map's machine concludes from its contracts, with no proof of its own.
-ghost use Rattle.std.specs.Prelude.{◌≡◌, ℕ, IfOk, IfSome, Some, nat_eq, take};
+ghost use Rattle.std.specs.Prelude.{◌≡◌, ℕ, IfOk, IfSome, Some, nat_eq, suc, take, vec_capacity};
 ghost use Rattle.std.specs.FinMap.{empty, entries};
 ghost use Rattle.judge.specs.Answer.{Pairs};
 ghost use Rattle.congee.specs.Keys.{IsMapOf};
 ghost use Rattle.joint.specs.nodes.Draining.{Drained as AllDrained};
 ghost use Rattle.joint.specs.nodes.Nodes.{nodes};
 ghost use Rattle.joint.specs.calls.Runs.{RunsMap};
+ghost use Rattle.joint.specs.calls.Scanned.{ScansAs};
 ghost use Rattle.joint.specs.engine.Flying.{no_flights};
 ghost use Rattle.joint.specs.engine.Engine.{World as State};
+ghost use Rattle.joint.specs.engine.Standing.{pairs_of};
 
 use congee::{Allocator, DefaultAllocator, Drainer, NoDrain};
-use joint::{Limits, Op, Ran, Refusal, Step, World};
+use joint::{Limits, Op, Ran, Refusal, Report, Step, World};
 use judge::Reply;
 use std::alloc::Global;
 use std::vec::Vec;
@@ -85,4 +87,29 @@ pub fn reads_what_it_put<A: Allocator>(
         Reply::Get(found) => Some(found),
         _ => None,
     }
+}
+
+/// The pairs with start <= key <= last of the map that stands, ascending, as many as the page has places: one whole scan of 1,000
+/// steps at most. It tells how many there are. `None` where it didn't come to its end.
+pub fn page_of<A: Allocator>(
+    index: &mut World<u64, A>,
+    who: u32,
+    start: u64,
+    last: u64,
+    page: &mut [(u64, u64)],
+) -> Option<usize>
+    ensures { ScansAs start (suc last) (pairs_of index.old) result page.new }
+{
+    index.scan(who, start, last, 1_000, page)
+}
+
+/// Takes steps while a list has room for their reports, so that none asks for memory, and tells how many it took.
+pub fn runs_within<A: Allocator>(
+    index: &mut World<u64, A>,
+    steps: Vec<Step<u64>>,
+    reports: &mut Vec<Report<u64>>,
+) -> usize
+    ensures { vec_capacity reports.new ≡ vec_capacity reports.old }
+{
+    index.run_into(steps, reports)
 }

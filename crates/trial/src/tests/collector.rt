@@ -5,3 +5,4 @@ pub mod face;
 pub mod jobs;
 pub mod machine;
 pub mod threads;
+pub mod values;

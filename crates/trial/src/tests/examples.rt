@@ -1,8 +1,9 @@
 //! The examples, run.
 
-use super::collector::face::{Handle, Item, ended, limits};
+use super::collector::face::{Handle, ended, limits};
 use super::collector::machine::adds;
 use super::collector::threads::leaves;
+use super::collector::values::Item;
 use super::machine::{
     END, Index, begin, beginning, count_of, discard, go as step_on, going, is_done, noise, open,
     registering, replied,
@@ -24,6 +25,7 @@ use crate::examples::promises::{answer_alike, gives_memory_back};
 use crate::examples::read_mostly::{Doubles, look, reads_beside_a_writer, writes_in_two_threads};
 use crate::examples::stack::{Node, Stack, pops, sum_of_two};
 use crate::examples::threaded::{fills_and_closes, first_calls, shared_values};
+use crate::examples::timed::first_due;
 use crate::examples::unlocked::shares_and_drains;
 use crate::examples::{machine, moment};
 use crate::tests::asserts::assert_same;
@@ -330,6 +332,13 @@ fn rounds_between_steps_are_unseen(rt: HostRuntime) -> Result<(), Fail> {
 #[test]
 fn the_first_calls_find_what_was_put(rt: HostRuntime) -> Result<(), Fail> {
     assert_same(&rt, first_calls(&rt, rt.alloc())?, (Some(42), 1));
+    Ok(())
+}
+
+#[test]
+fn jobs_are_taken_when_they_are_due(rt: HostRuntime) -> Result<(), Fail> {
+    let told = first_due(&rt, rt.alloc(), &[30, 10, 20, 50], 20, 40)?;
+    assert_same(&rt, told, (2, Some((30, 0)), Some((50, 3))));
     Ok(())
 }
 

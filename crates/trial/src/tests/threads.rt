@@ -1,5 +1,6 @@
-//! What tries the trees for threads, of which `trees` tells what is asked of each kind alike.
+//! What tries the trees for threads, of which `asks` tells what is asked of each kind alike.
 
+pub mod asks;
 pub mod callers;
 pub mod histories;
 pub mod refusals;

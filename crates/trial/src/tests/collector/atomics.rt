@@ -1,9 +1,8 @@
 //! Rows of what is asked of an `Atomic`, and of the values that it leads to, under a guard.
 
-use super::face::{
-    Item, ItemGuard, Under, boxed, destroys_at_once, discard, limits, number_of, spend,
-};
+use super::face::{ItemGuard, Under, destroys_at_once, discard, limits, spend};
 use super::threads::leaves;
+use super::values::{Item, boxed, number_of};
 use crate::tests::asserts::assert_same;
 use crossbeam_epoch::{Atomic, Collector, Exchanged, Fault, Link, Shared};
 use std::alloc::Global;

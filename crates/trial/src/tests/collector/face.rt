@@ -1,46 +1,20 @@
-//! The face for threads: handles, guards, and values without pointers. `atomics` has the rows of pointers, `threads` and `jobs` what
-//! handles do.
+//! The face for threads: handles and guards. `values` has values without pointers, `atomics` the rows of pointers, `threads` and
+//! `jobs` what handles do.
 
 use super::jobs::blocks;
 use super::threads::{Place, Task, at_once, by_handle, leaves};
+use super::values::{Item, boxed, number_of, tag_of};
 use crate::tests::asserts::assert_same;
 use crossbeam_epoch::{
-    Atomic, Collector, CompareAndSetOrdering, Fault, Guard, Job, Limits, Link, LocalHandle, Owned,
-    Pointable, Shared, unprotected,
+    Atomic, Collector, Fault, Guard, Job, Limits, Link, LocalHandle, Owned, Shared, unprotected,
 };
 use std::alloc::Global;
-use std::ops::DerefMut;
 use std::process::Abort;
+use std::sync::atomic::AtomicU64;
 use std::sync::atomic::Ordering::SeqCst;
-use std::sync::atomic::{AtomicU64, Ordering};
 use std::sync::{Arc, Wait};
 use std::test::Fail;
 use std::thread::Threads;
-
-/// A value with tags 0 to 3.
-#[derive(Clone, Drop)]
-pub struct Item(u64);
-
-impl Item {
-    pub fn number(&self) -> u64 {
-        self.0
-    }
-
-    /// Adds one.
-    pub fn raise(&mut self) {
-        self.0 = self.0.wrapping_add(1);
-    }
-}
-
-impl Pointable for Item {
-    ghost use Rattle.std.proofs.Common.{refl, lit≤};
-
-    ghost ALIGN = { 4 };
-
-    const ALIGN: u16 = 4;
-
-    ghost aligned = { (2, lit≤ tt, refl) };
-}
 
 pub type Handle<'c> = LocalHandle<'c, Item>;
 
@@ -299,27 +273,6 @@ fn round<R: Wait + Abort>(rt: &R, handle: &mut Handle<'_>) -> Result<(), Fault> 
     flushed
 }
 
-/// A value without a pointer.
-pub fn boxed(alloc: Global, number: u64) -> Result<Owned<Item>, Fault> {
-    match Owned::new(alloc, Item(number)) {
-        Ok(owned) => Ok(owned),
-        Err((fault, _item)) => Err(fault),
-    }
-}
-
-/// The number of a value that was taken out.
-pub fn number_of(owned: Option<Owned<Item>>) -> Option<u64> {
-    Some(owned?.into_box().0)
-}
-
-/// Its tag.
-fn tag_of(owned: Option<Owned<Item>>) -> Option<usize> {
-    match owned {
-        Some(owned) => Some(owned.tag()),
-        None => None,
-    }
-}
-
 /// The pointer before a swap.
 pub fn swapped<R: Wait + Abort>(
     rt: &R,
@@ -564,28 +517,6 @@ fn refuse<R: Wait + Abort>(
     Ok(flushed == Err(Fault::Foreign) && destroyed == Err(Fault::Unknown))
 }
 
-#[test]
-fn a_failure_loads_as_strongly_as_it_may(rt: HostRuntime) {
-    let rows = [
-        (Ordering::Relaxed, Ordering::Relaxed),
-        (Ordering::Release, Ordering::Relaxed),
-        (Ordering::Acquire, Ordering::Acquire),
-        (Ordering::AcqRel, Ordering::Acquire),
-        (SeqCst, SeqCst),
-    ];
-    for (order, failure) in rows {
-        let pair = (order, failure);
-        assert_same(
-            &rt,
-            [
-                (order.success(), order.failure()),
-                (pair.success(), pair.failure()),
-            ],
-            [pair, pair],
-        );
-    }
-}
-
 /// Whether a guard goes on from epoch 0 to 2 at a repin, during which another handle tries to advance twice: its participant is
 /// unpinned meanwhile. The closure's answer comes back.
 fn goes_on_meanwhile<R: Wait + Abort>(
@@ -630,38 +561,4 @@ fn two_handles<'c, R: Wait + Abort>(
             Err(fault)
         }
     }
-}
-
-#[test]
-fn owned_values(rt: HostRuntime) -> Result<(), Fail> {
-    let alloc = rt.alloc();
-    let mut owned = match Owned::init(alloc, Item(4)) {
-        Ok(owned) => owned.with_tag(7),
-        Err((fault, _item)) => return Err(fault.into()),
-    };
-    owned.deref_mut().0 = 5;
-    owned.as_mut().0 = 6;
-    owned.borrow_mut().0 = 7;
-    assert!(rt; owned.tag() == 3 && owned.0 == 7);
-    assert!(rt; owned.as_ref().0 == 7 && owned.borrow().0 == 7);
-    let copy = Owned::from(Box::new(alloc, Item(9))?);
-    assert!(rt; copy.tag() == 0 && copy.into_box().0 == 9);
-    Ok(())
-}
-
-#[test]
-fn a_copy_has_the_value_and_the_tag(rt: HostRuntime) -> Result<(), Fail> {
-    let owned = boxed(rt.alloc(), 4)?.with_tag(3);
-    let copy = owned.clone()?;
-    assert!(rt; copy.tag() == 3 && copy.into_box().0 == 4);
-    assert!(rt; owned.tag() == 3 && owned.into_box().0 == 4);
-    Ok(())
-}
-
-#[test]
-fn tagged_nulls_are_null(rt: HostRuntime) {
-    let null: Shared<'_, Item> = Shared::null();
-    let one: Shared<'_, Item> = null.with_tag(1);
-    assert!(rt; null.is_null() && one.is_null());
-    assert!(rt; null != one && null < one && one == one.with_tag(5));
 }

@@ -1,8 +1,9 @@
 //! Jobs: when they are called, and when not yet; a flush that finds no memory; and a pointer whose tag two threads change.
 
-use super::face::{Handle, Item, What, defer, discard, limits, rounds, spend, tried};
+use super::face::{Handle, What, defer, discard, limits, rounds, spend, tried};
 use super::machine::adds;
 use super::threads::{Task, job, leaves};
+use super::values::Item;
 use crate::tests::asserts::assert_same;
 use crossbeam_epoch::{Atomic, Collector, Fault, unprotected};
 use std::alloc::Global;

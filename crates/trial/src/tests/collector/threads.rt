@@ -1,11 +1,12 @@
 //! What is tried on one collector: by one handle, and by threads, each with handles of its own.
 
 use super::face::{
-    Handle, Item, ItemGuard, Under, defer, destroy, makes, nests, repins, rounds, spend, swapped,
+    Handle, ItemGuard, Under, defer, destroy, makes, nests, repins, rounds, spend, swapped,
     tries_one_cell,
 };
 use super::jobs::{defers_unchecked, flips, flushes, puts_off};
 use super::machine::adds;
+use super::values::Item;
 use crate::tests::threads::threaded::comes;
 use crossbeam_epoch::{Atomic, Collector, Fault, Job, Link, Pointable};
 use std::alloc::Global;

@@ -1,7 +1,8 @@
 //! Sixteen threads that call on one index with a journal: calls of each kind on a key, and scans between.
 ghost use Rattle.std.specs.Prelude.{◌≡◌, ◌<◌};
 
-use super::trees::{Told, raised_or, recorded_called, spent};
+use super::asks::{Told, raised_or, spent};
+use super::trees::recorded_called;
 use crate::tests::asserts::assert_same;
 use crate::tests::machine::drawn::number_in;
 use crate::threads::callers;

@@ -2,7 +2,7 @@
 
 ghost use Rattle.std.specs.Prelude.{◌≡◌};
 
-use super::trees::{left, spent};
+use super::asks::{left, spent};
 use crate::examples::closing::closes;
 use crate::examples::history::{Recorded, counts_calls, writes_of_two};
 use crate::tests::asserts::assert_same;

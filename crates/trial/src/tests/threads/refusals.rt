@@ -3,7 +3,8 @@
 
 ghost use Rattle.std.specs.Prelude.{◌≡◌};
 
-use super::trees::{Ask, Owners, Recorded, Threaded, Told, Which, left, spent};
+use super::asks::{Ask, Threaded, Told, Which, left, nothing, spent};
+use super::trees::{Owners, Recorded};
 use crate::drained::Drained;
 use crate::tests::asserts::assert_same;
 use congee::Limited;
@@ -457,7 +458,7 @@ fn guards_out<R: Wait>(rt: &R, tree: &Words) -> Result<bool, Refusal> {
                     Err(Refusal::Foreign),
                 )
             && refusal_of(tree.pin(rt, &mut worker)) == Some(Refusal::Count)
-            && tree.pinned(rt, &mut worker, |_, _| Ok(())) == Err(Refusal::Count)
+            && tree.pinned(rt, &mut worker, nothing) == Err(Refusal::Count)
             && tree.round(rt, &mut worker) == Err(Refusal::Count)
             && left(tree.release(rt, other)) == Err(Refusal::GuardOut)
             && tree.keys(rt, &mut worker)?.is_empty(),

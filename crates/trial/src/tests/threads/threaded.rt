@@ -3,7 +3,8 @@
 
 ghost use Rattle.std.specs.Prelude.{◌≡◌};
 
-use super::trees::{Ask, Left, Owners, Recorded, Threaded, Told, Which, left, spent};
+use super::asks::{Ask, Left, Threaded, Told, Which, left, spent};
+use super::trees::{Owners, Recorded};
 use crate::drained::Drained;
 use crate::examples::counter::count_in_two_threads;
 use crate::tests::asserts::assert_same;

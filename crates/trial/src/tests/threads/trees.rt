@@ -1,194 +1,17 @@
-//! What is asked of a tree for threads and what it tells: each call of each kind of tree stands here once.
+//! Each call of each kind of tree for threads, once.
 
+use super::asks::{
+    Ask, Left, Threaded, Told, Which, count_told, done, emptiness_told, exchange_told, held,
+    keys_told, nothing, pair_told, pairs_told, presence_told, present_told, raised, raised_or,
+    scan_told, value_told,
+};
 use crate::drained::Drained;
-use congee::{Allocator, NodeStats};
+use congee::Allocator;
 use joint::{Congee, CongeeArc, Every, Guard, Journaled, Refusal, Share, U64Congee, Worker};
 use judge::{Call, Reply};
 use std::alloc::Global;
 use std::sync::ledger::Ledger;
 use std::sync::{Arc, Wait};
-
-/// What is asked of a tree.
-#[derive(Clone, Copy)]
-pub enum Ask {
-    /// A call on a key. The closure of a `ComputePresent` adds its number to the value, or takes the key out where it has none; that
-    /// of a `ComputeInsert` adds 64, or answers its number where there is no value. Owners are replaced by one of the number.
-    Call(Call<u64>),
-    /// A scan into four places.
-    Range(u64, u64),
-    RangeInclusive(u64, u64),
-    /// Whether a key has a value.
-    Has(u64),
-    IsEmpty,
-    Nearest(Which),
-    Keys,
-    Stats,
-    Len,
-    Repin,
-    Flush,
-    Round,
-    /// A call of nothing under a guard of its own.
-    Pinned,
-    /// A guard, which stays out.
-    Pin,
-}
-
-/// Which pair is looked for.
-#[derive(Clone, Copy)]
-pub enum Which {
-    First,
-    Last,
-    After(u64),
-    Before(u64),
-    From(u64),
-    UpTo(u64),
-}
-
-/// What it tells.
-#[derive(Clone, Copy, PartialEq, Eq)]
-pub enum Told {
-    Replied(Reply<u64>),
-    /// How many pairs were found, and what stands in the first place.
-    Scanned(usize, (u64, u64)),
-    Has(bool),
-    IsEmpty(bool),
-    Pair(Option<(u64, u64)>),
-    /// How many keys there are, and the first one.
-    Keys(usize, Option<u64>),
-    /// How many pairs the statistics count, or the tree.
-    Pairs(u64),
-    Done,
-    /// Another value came back with the refusal, or a tree of this kind has no such call.
-    Nothing,
-}
-
-/// What a tree that is closed leaves: what its allocator has charged, how much that may be, and how many pairs its drainer took,
-/// with the first one.
-pub type Left = (u64, u64, usize, Option<(u64, u64)>);
-
-/// A tree for threads, of any kind.
-pub trait Threaded: Sized + Drop {
-    fn comes<R: Wait>(&self, rt: &R) -> Result<Worker, Refusal>;
-
-    fn leaves<R: Wait>(&self, rt: &R, worker: Worker) -> Result<(), (Refusal, Worker)>;
-
-    fn pins<R: Wait>(&self, rt: &R, worker: &mut Worker) -> Result<Guard, Refusal>;
-
-    fn unpins<R: Wait>(
-        &self,
-        rt: &R,
-        worker: &mut Worker,
-        guard: Guard,
-    ) -> Result<(), (Refusal, Guard)>;
-
-    fn goes_round<R: Wait>(&self, rt: &R, worker: &mut Worker) -> Result<(), Refusal>;
-
-    /// What it tells of what is asked.
-    fn told<R: Wait>(
-        &mut self,
-        rt: &R,
-        ask: Ask,
-        worker: &mut Worker,
-        guard: &Guard,
-    ) -> Result<Told, Refusal>;
-
-    /// The bytes that are charged, the nodes that wait, and their bytes.
-    fn state<R: Wait>(&self, rt: &R) -> (u64, u64, u64);
-
-    /// It comes back with a refusal.
-    fn closes<R: Wait>(self, rt: &R) -> Result<Left, (Refusal, Self)>;
-}
-
-/// Whether a guard was spent; a refused one is let go.
-pub fn spent(unpinned: Result<(), (Refusal, Guard)>) -> Result<(), Refusal> {
-    match unpinned {
-        Ok(()) => Ok(()),
-        Err((refusal, guard)) => {
-            guard.forget();
-            Err(refusal)
-        }
-    }
-}
-
-/// Whether a worker has left.
-pub fn left(released: Result<(), (Refusal, Worker)>) -> Result<(), Refusal> {
-    match released {
-        Ok(()) => Ok(()),
-        Err((refusal, _)) => Err(refusal),
-    }
-}
-
-/// A guard that stays out.
-fn held(pinned: Result<Guard, Refusal>) -> Result<Told, Refusal> {
-    match pinned {
-        Ok(guard) => {
-            guard.forget();
-            Ok(Told::Done)
-        }
-        Err(refusal) => Err(refusal),
-    }
-}
-
-fn done(answer: Result<(), Refusal>) -> Result<Told, Refusal> {
-    match answer {
-        Ok(()) => Ok(Told::Done),
-        Err(refusal) => Err(refusal),
-    }
-}
-
-/// What a closure answers for a value.
-pub fn raised(found: u64, by: Option<u64>) -> Option<u64> {
-    match by {
-        Some(by) => Some(found.wrapping_add(by)),
-        None => None,
-    }
-}
-
-/// What a closure answers for a value or none.
-pub fn raised_or(found: Option<u64>, number: u64) -> u64 {
-    match found {
-        Some(found) => found.wrapping_add(64),
-        None => number,
-    }
-}
-
-/// Keys as they are told.
-fn keys_told(keys: Result<Vec<u64>, Refusal>) -> Result<Told, Refusal> {
-    match keys {
-        Ok(keys) => Ok(Told::Keys(keys.len(), keys.first().copied())),
-        Err(refusal) => Err(refusal),
-    }
-}
-
-/// The pairs that statistics count.
-fn pairs_told(stats: Result<NodeStats, Refusal>) -> Result<Told, Refusal> {
-    match stats {
-        Ok(stats) => Ok(Told::Pairs(stats.kv_pairs)),
-        Err(refusal) => Err(refusal),
-    }
-}
-
-/// How many pairs a tree counts.
-fn count_told(len: Result<u64, Refusal>) -> Result<Told, Refusal> {
-    match len {
-        Ok(len) => Ok(Told::Pairs(len)),
-        Err(refusal) => Err(refusal),
-    }
-}
-
-fn presence_told(has: Result<bool, Refusal>) -> Result<Told, Refusal> {
-    match has {
-        Ok(has) => Ok(Told::Has(has)),
-        Err(refusal) => Err(refusal),
-    }
-}
-
-fn emptiness_told(is_empty: Result<bool, Refusal>) -> Result<Told, Refusal> {
-    match is_empty {
-        Ok(is_empty) => Ok(Told::IsEmpty(is_empty)),
-        Err(refusal) => Err(refusal),
-    }
-}
 
 /// A call on a key. `by` stands before a key that is looked for; a writing call also takes the share.
 macro_rules! called {
@@ -197,34 +20,24 @@ macro_rules! called {
         $guard:ident
     ) => {
         match $call {
-            Call::Get(key) => {
-                let found = $tree.get($rt, $($by)? key, $worker, $guard)?;
-                Ok(Told::Replied(Reply::Get(found)))
-            }
+            Call::Get(key) => value_told($call, $tree.get($rt, $($by)? key, $worker, $guard)),
             Call::Insert(key, value) => {
-                let before = $tree.insert($rt, key, value, $($share,)? $worker, $guard)?;
-                Ok(Told::Replied(Reply::Insert(before)))
+                value_told($call, $tree.insert($rt, key, value, $($share,)? $worker, $guard))
             }
             Call::Remove(key) => {
-                let taken = $tree.remove($rt, $($by)? key, $($share,)? $worker, $guard)?;
-                Ok(Told::Replied(Reply::Remove(taken)))
+                value_told($call, $tree.remove($rt, $($by)? key, $($share,)? $worker, $guard))
             }
             Call::ComputePresent(key, by) => {
                 let raise = |found: u64| raised(found, by);
-                let told = $tree
-                    .compute_if_present($rt, $($by)? key, raise, $($share,)? $worker, $guard)?;
-                Ok(Told::Replied(Reply::ComputePresent(told)))
+                present_told($tree
+                    .compute_if_present($rt, $($by)? key, raise, $($share,)? $worker, $guard))
             }
             Call::ComputeInsert(key, by) => {
                 let raise = |found: Option<u64>| raised_or(found, by);
-                let before = $tree.compute_or_insert($rt, key, raise, $($share,)? $worker, $guard)?;
-                Ok(Told::Replied(Reply::ComputeInsert(before)))
+                value_told($call, $tree.compute_or_insert($rt, key, raise, $($share,)? $worker, $guard))
             }
-            Call::Exchange(key, old, new) => {
-                let told = $tree
-                    .compare_exchange($rt, $($by)? key, &old, new, $($share,)? $worker, $guard)?;
-                Ok(Told::Replied(Reply::Exchange(told)))
-            }
+            Call::Exchange(key, old, new) => exchange_told($tree
+                .compare_exchange($rt, $($by)? key, &old, new, $($share,)? $worker, $guard)),
         }
     };
 }
@@ -236,11 +49,11 @@ macro_rules! scanned {
     ) => {
         match $ask {
             Ask::Range(start, end) => {
-                $tree.range($rt, $($by)? start, $($by)? end, &mut $out, $worker, $guard)?
+                $tree.range($rt, $($by)? start, $($by)? end, &mut $out, $worker, $guard)
             }
             Ask::RangeInclusive(start, last) => {
                 $tree
-                    .range_inclusive($rt, $($by)? start, $($by)? last, &mut $out, $worker, $guard)?
+                    .range_inclusive($rt, $($by)? start, $($by)? last, &mut $out, $worker, $guard)
             }
             _ => return Ok(Told::Nothing),
         }
@@ -251,12 +64,12 @@ macro_rules! scanned {
 macro_rules! nearest {
     ($rt:ident, $tree:ident, $which:ident, ($($by:tt)?), $worker:ident, $guard:ident) => {
         match $which {
-            Which::First => $tree.first($rt, $worker, $guard)?,
-            Which::Last => $tree.last($rt, $worker, $guard)?,
-            Which::After(key) => $tree.next_after($rt, $($by)? key, $worker, $guard)?,
-            Which::Before(key) => $tree.next_before($rt, $($by)? key, $worker, $guard)?,
-            Which::From(key) => $tree.at_or_after($rt, $($by)? key, $worker, $guard)?,
-            Which::UpTo(key) => $tree.at_or_before($rt, $($by)? key, $worker, $guard)?,
+            Which::First => $tree.first($rt, $worker, $guard),
+            Which::Last => $tree.last($rt, $worker, $guard),
+            Which::After(key) => $tree.next_after($rt, $($by)? key, $worker, $guard),
+            Which::Before(key) => $tree.next_before($rt, $($by)? key, $worker, $guard),
+            Which::From(key) => $tree.at_or_after($rt, $($by)? key, $worker, $guard),
+            Which::UpTo(key) => $tree.at_or_before($rt, $($by)? key, $worker, $guard),
         }
     };
 }
@@ -275,7 +88,7 @@ macro_rules! wholly {
             Ask::Repin => done($tree.repin($rt, $worker, $guard)),
             Ask::Flush => done($tree.flush($rt, $worker, $guard)),
             Ask::Round => done($tree.round($rt, $worker)),
-            Ask::Pinned => done($tree.pinned($rt, $worker, |_, _| Ok(()))),
+            Ask::Pinned => done($tree.pinned($rt, $worker, nothing)),
             Ask::Pin => held($tree.pin($rt, $worker)),
             Ask::Call(_) | Ask::Range(..) | Ask::RangeInclusive(..) | Ask::Nearest(_) => {
                 Ok(Told::Nothing)
@@ -284,6 +97,7 @@ macro_rules! wholly {
     };
 }
 
+/// A call on a key of a tree of words.
 fn words_called<A: Allocator, R: Wait>(
     rt: &R,
     tree: &Congee<u64, u64, A>,
@@ -303,7 +117,7 @@ fn words_scanned<A: Allocator, R: Wait>(
 ) -> Result<Told, Refusal> {
     let mut out = [(0, 0); 4];
     let count = scanned!(rt, tree, ask, out, (&), worker, guard);
-    Ok(Told::Scanned(count, out[0]))
+    scan_told(count, out[0])
 }
 
 fn words_nearest<A: Allocator, R: Wait>(
@@ -313,8 +127,7 @@ fn words_nearest<A: Allocator, R: Wait>(
     worker: &mut Worker,
     guard: &Guard,
 ) -> Result<Told, Refusal> {
-    let pair = nearest!(rt, tree, which, (&), worker, guard);
-    Ok(Told::Pair(pair))
+    pair_told(nearest!(rt, tree, which, (&), worker, guard))
 }
 
 fn words_wholly<A: Allocator, R: Wait>(
@@ -346,7 +159,7 @@ fn numbers_scanned<A: Allocator, R: Wait>(
 ) -> Result<Told, Refusal> {
     let mut out = [([0; 8], 0); 4];
     let count = scanned!(rt, tree, ask, out, (), worker, guard);
-    Ok(Told::Scanned(count, (u64::from_be_bytes(out[0].0), out[0].1)))
+    scan_told(count, (u64::from_be_bytes(out[0].0), out[0].1))
 }
 
 fn numbers_nearest<A: Allocator, R: Wait>(
@@ -356,8 +169,7 @@ fn numbers_nearest<A: Allocator, R: Wait>(
     worker: &mut Worker,
     guard: &Guard,
 ) -> Result<Told, Refusal> {
-    let pair = nearest!(rt, tree, which, (), worker, guard);
-    Ok(Told::Pair(pair))
+    pair_told(nearest!(rt, tree, which, (), worker, guard))
 }
 
 fn numbers_wholly<A: Allocator, R: Wait>(
@@ -391,7 +203,7 @@ fn recorded_scanned<L: Ledger, A: Allocator, D: Drop, R: Wait>(
 ) -> Result<Told, Refusal> {
     let mut out = [(0, 0); 4];
     let count = scanned!(rt, tree, ask, out, (&), worker, guard);
-    Ok(Told::Scanned(count, out[0]))
+    scan_told(count, out[0])
 }
 
 fn recorded_nearest<L: Ledger, A: Allocator, D: Drop, R: Wait>(
@@ -401,8 +213,7 @@ fn recorded_nearest<L: Ledger, A: Allocator, D: Drop, R: Wait>(
     worker: &mut Worker,
     guard: &Guard,
 ) -> Result<Told, Refusal> {
-    let pair = nearest!(rt, tree, which, (&), worker, guard);
-    Ok(Told::Pair(pair))
+    pair_told(nearest!(rt, tree, which, (&), worker, guard))
 }
 
 fn recorded_wholly<L: Ledger, A: Allocator, D: Drop, R: Wait>(
@@ -704,8 +515,9 @@ fn owners_nearest<R: Wait>(
     guard: &Guard,
 ) -> Result<Told, Refusal> {
     match nearest!(rt, tree, which, (), worker, guard) {
-        Some((key, owner)) => Ok(Told::Pair(Some((key, *owner)))),
-        None => Ok(Told::Pair(None)),
+        Ok(Some((key, owner))) => Ok(Told::Pair(Some((key, *owner)))),
+        Ok(None) => Ok(Told::Pair(None)),
+        Err(refusal) => Err(refusal),
     }
 }
 

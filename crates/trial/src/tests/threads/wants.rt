@@ -1,7 +1,8 @@
 //! Calls that find no memory once, and are made again. The gate runs each of these tests with each request for memory refused
 //! in turn: what is refused has changed nothing, and then it is answered.
 
-use super::trees::{Ask, Owners, Threaded, Told, left, spent};
+use super::asks::{Ask, Threaded, Told, left, spent};
+use super::trees::Owners;
 use crate::tests::asserts::assert_same;
 use crate::tests::failures::{ends_with, is_flushed, opened};
 use crate::tests::machine::drawn::step_at;

@@ -109,6 +109,23 @@ fn a_for_goes_over_a_tree(rt: HostRuntime) -> Result<(), Fail> {
 }
 
 #[test]
+fn a_for_takes_a_tree(rt: HostRuntime) -> Result<(), Fail> {
+    let tree = squares(rt.alloc(), 4)?;
+    let mut rest = tree.into_iter();
+    let ends = (rest.next(), rest.next_back());
+    let mut last = None;
+    for pair in rest {
+        last = Some(pair);
+    }
+    assert_same(
+        &rt,
+        (ends, last),
+        ((Some((0, 0)), Some((3, 9))), Some((2, 4))),
+    );
+    Ok(())
+}
+
+#[test]
 fn a_for_goes_over_a_tree_of_words(rt: HostRuntime) -> Result<(), Fail> {
     let mut tree: Congee<i64, u64> = Congee::new(rt.alloc(), DefaultAllocator::new())?;
     tree.insert(-3, 1)?;

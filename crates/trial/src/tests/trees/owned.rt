@@ -4,7 +4,7 @@ use super::lessening::{changes, goes};
 use crate::tests::asserts::assert_same;
 use crate::tests::dialogue::{Asked, told, wrong_turn};
 use crate::tests::texts::named;
-use crate::tests::threads::trees::raised;
+use crate::tests::threads::asks::raised;
 use congee::{Congee, Limited, NoDrain, OOMError, U64Congee};
 use std::alloc::Global;
 use std::test::Fail;
