@@ -23,6 +23,7 @@ NAMES = {
     "crossbeam-epoch": "`crossbeam-epoch`",
     "unlocked": "`optimistic`",
     "stepped": "`joint`",
+    "joint": "`joint`",
     "mutex": "`Mutex<BTreeMap>`",
     "rwlock": "`RwLock<BTreeMap>`",
 }
@@ -47,8 +48,11 @@ CALLS = {
     "read-newest": "read at the newest snapshot",
     "vacuum": "vacuum, for each version that stood",
     "read-vacuumed": "read at the newest snapshot, after the vacuum",
-    "range-beside-writer": "the same beside a thread that writes",
+    "range-beside-writer": "range of 100 keys, beside a thread that writes",
     "range-at-once": "range of 100 keys, of one moment",
+    "range-at-once-beside-writer": "range of 100 keys, of one moment, beside a thread that writes",
+    "get-64": "64 look-ups, one by one",
+    "get-many": "`get_many` of 64 keys",
     "mix-5": "look-ups, 5 in 100 insertions",
     "mix-50": "look-ups, half insertions",
     "overwrite-256": "overwriting of the same 256 keys",
@@ -56,6 +60,7 @@ CALLS = {
     "stats": "`stats`, for each key",
     "close": "`close`, for each key",
     "bytes": "bytes a key",
+    "bytes-emptied": "the same once all keys are taken out again",
     "pin": "a pin and its unpin",
     "defer": "the same, with a deferral between, and a flush each 128",
     "flush": "the same, with a flush each time",
@@ -70,10 +75,11 @@ CALLS = {
 PARTS = {
     "owned": ("owned", ["ours", "congee", "btree", "absl", "judy"]),
     "sizes": ("owned", ["ours", "congee", "btree", "absl", "judy"]),
-    "memory": ("memory", ["ours", "congee", "btree", "absl", "judy"]),
+    "memory": ("memory", ["ours", "congee", "btree", "absl", "judy", "joint"]),
     "further": ("further", ["ours", "btree", "absl"]),
     "versions": ("versions", ["ours", "btree"]),
     "unlocked": ("threads", ["unlocked", "congee", "mutex", "rwlock"]),
+    "ranges": ("ranges", ["unlocked", "congee", "mutex", "rwlock"]),
     "words": ("memory", ["unlocked"]),
     "stepped": ("threads", ["stepped", "congee", "mutex", "rwlock"]),
     "collector": ("collector", ["ours", "crossbeam-epoch"]),
@@ -175,6 +181,14 @@ def further(part, show):
     return [*by_kinds(part, show, lambda keys: True), "", said]
 
 
+def ranges(part, show):
+    """Ranges and look-ups of many keys on trees for threads, and how ours go beside one another."""
+    said = f"Of ours, a range of one moment takes {within(part, 'range-at-once', 'range')} times a range,"
+    said += f" {within(part, 'range-at-once-beside-writer', 'range-beside-writer')} times where a thread writes,"
+    said += f" and `get_many` of 64 keys takes {within(part, 'get-many', 'get-64')} times as many look-ups."
+    return [*by_threads(part, show), "", said]
+
+
 def tables(parts):
     some = lambda name, draw, show, *more: draw(parts[name], show, *more) if name in parts else ["Not measured yet."]
     return {
@@ -185,6 +199,7 @@ def tables(parts):
         "words": some("words", by_kinds, time_of, lambda keys: True),
         "machine": some("machine", by_kinds, time_of, lambda keys: True),
         "unlocked": some("unlocked", by_threads, micros),
+        "ranges": some("ranges", ranges, micros),
         "stepped": some("stepped", by_threads, micros),
         "collector": some("collector", by_threads, time_of),
         "program": some("program", by_threads, time_of),
@@ -268,6 +283,8 @@ def take(kept, file, names):
         of, indexes = PARTS[name]
         rows = [row[1:] for row in run["rows"] if row[0] == of and row[5] in indexes]
         rows = [row for row in rows if (row[0], row[1], row[2], row[3]) in {tuple(it[:4]) for it in rows if it[4] == indexes[0]}]
+        if name == "owned":
+            rows = [row for row in rows if 100_000 <= row[0] <= 1_000_000]
         before, after = run["load"]
         machine = f"{run['machine']}; load {before} before and {after} after, priority {run['nice']}"
         kept[name] = {"day": run["day"], "machine": machine, "rounds": "those of `--quick`" if run["quick"] else "all", "rows": rows}

@@ -17,6 +17,15 @@ pub fn now() -> u64 {
     time.seconds as u64 * 1_000_000_000 + time.nanos as u64
 }
 
+/// The bytes of this process that are in memory, without what the C library keeps for what comes next.
+pub fn resident_alone() -> u64 {
+    unsafe extern "C" {
+        fn malloc_trim(pad: usize) -> i32;
+    }
+    unsafe { malloc_trim(0) };
+    resident()
+}
+
 /// The bytes of this process that are in memory.
 pub fn resident() -> u64 {
     let text = std::fs::read_to_string("/proc/self/statm").unwrap();

@@ -1,8 +1,8 @@
 //! Rounds on one thread: a round puts keys into an empty index, looks them up, asks for ranges and takes the keys out, and rounds of
 //! one index come after the other's. The project's program makes its own, and calls this library for the others.
 //! `BENCH`: owned|further|machine,KEYS,dense|scattered,ROUNDS,INDEX+.. or versions,VERSIONS,dense|scattered,ROUNDS,INDEX+.. or
-//! memory,KEYS,dense|scattered,1,INDEX.
-use crate::clock::{between, now, resident};
+//! memory,KEYS,dense|scattered,1,INDEX, in which the machine is `joint`.
+use crate::clock::{between, now, resident, resident_alone};
 use crate::keys::{Input, SPAN};
 use crate::peers::owned::{Map, Ordered, Run, peer};
 use crate::{further, row, setting, versions};
@@ -14,6 +14,8 @@ const CALLS: [&str; 5] = ["insert", "get", "get-shuffled", "range", "remove"];
 /// What the machine does beside, from one mark to another.
 const MORE: [(&str, usize, usize); 4] = [("overwrite", 6, 7), ("keys", 7, 8), ("stats", 8, 9), ("close", 10, 11)];
 const OURS: &str = "ours";
+/// The machine, where its memory is measured beside that of trees of one owner.
+const MACHINE: &str = "joint";
 /// A store of versions is measured beside the same over this.
 const STD: &str = "btree";
 
@@ -93,13 +95,13 @@ fn tell_marks(bench: &Bench, index: &str) {
 }
 
 /// Tells what the last round of ours took, and begins the next job: 0 where there is none, 1 for a round of the caller's, 2 for one
-/// of the project's index, 3 to fill this index alone, 4 for a round of further calls.
+/// of the project's index, 3 to fill this index alone and to empty it, 4 for a round of further calls.
 #[unsafe(no_mangle)]
 pub extern "C" fn rounds_next() -> u64 {
     let bench = bench();
     let memory = bench.part == "memory";
     let mut progress = PROGRESS.lock().unwrap();
-    let is_ours = |job: usize| bench.names[job % bench.names.len()] == OURS;
+    let is_ours = |job: usize| [OURS, MACHINE].contains(&bench.names[job % bench.names.len()].as_str());
     if progress.begun > 0 && !memory && is_ours(progress.begun - 1) {
         tell_marks(bench, OURS);
     }
@@ -107,6 +109,7 @@ pub extern "C" fn rounds_next() -> u64 {
         return 0;
     }
     progress.begun += 1;
+    progress.before = if memory { resident_alone() } else { 0 };
     match is_ours(progress.begun - 1) {
         false => 1,
         true if memory => 3,
@@ -127,16 +130,25 @@ pub extern "C" fn rounds_count(which: u32) -> u64 {
 pub unsafe extern "C" fn rounds_keys(which: u32, keys: *mut u64, n: usize) {
     let keys = unsafe { std::slice::from_raw_parts_mut(keys, n) };
     keys.copy_from_slice(bench().input.list(which));
-    PROGRESS.lock().unwrap().before = resident();
+}
+
+/// Tells the bytes a key that came in since so many were resident.
+fn tell_memory(call: &str, index: &str, before: u64) {
+    let bench = bench();
+    let (n, bytes) = (bench.input.keys.len(), resident().saturating_sub(before));
+    row("memory", n as u64, &bench.kind, 1, call, index, bytes as f64 / n as f64);
 }
 
 /// The project's index stands, filled.
 #[unsafe(no_mangle)]
 pub extern "C" fn rounds_filled() {
-    let bench = bench();
-    let bytes = resident() - PROGRESS.lock().unwrap().before;
-    let n = bench.input.keys.len();
-    row("memory", n as u64, &bench.kind, 1, "bytes", OURS, bytes as f64 / n as f64);
+    tell_memory("bytes", running(), PROGRESS.lock().unwrap().before);
+}
+
+/// The project's index stands, and all that was put in is taken out.
+#[unsafe(no_mangle)]
+pub extern "C" fn rounds_emptied() {
+    tell_memory("bytes-emptied", running(), PROGRESS.lock().unwrap().before);
 }
 
 /// So many calls of the project's index answered wrong.
@@ -198,17 +210,18 @@ fn round<M: Map>(input: &Input) -> [f64; 5] {
     std::array::from_fn(|i| (marks[i + 1] - marks[i]) as f64 / calls[i] as f64)
 }
 
-/// The bytes a key that an index takes.
+/// The bytes a key that an index takes, and keeps once they are gone.
 fn memory<M: Map>(name: &str, input: &Input) {
-    let before = resident();
+    let before = resident_alone();
     let mut map = M::new();
     for key in &input.keys {
         map.insert(*key, *key);
     }
-    let n = input.keys.len();
-    let bytes = (resident() - before) as f64 / n as f64;
-    black_box(map.get(1));
-    row("memory", n as u64, &bench().kind, 1, "bytes", name, bytes);
+    tell_memory("bytes", name, before);
+    for key in &input.keys {
+        assert!(map.remove(*key));
+    }
+    tell_memory("bytes-emptied", name, before);
     // (what it holds is the process's, which ends)
     std::mem::forget(map);
 }

@@ -1,10 +1,11 @@
 //! Indexes for threads. The project's program makes the threads, for its own indexes and for the caller's: a job is some calls of
 //! each of so many threads on one index, and each thread asks here for a hundred keys at a time. The clock runs from the first
 //! thread's beginning to the last one's end; look-ups that aren't counted come before.
-//! `BENCH`: threads,KEYS,dense|scattered,ROUNDS,INDEX+..,THREADS+.. ; `BENCH_WORDS` says how many words the index without a lock has.
+//! `BENCH`: threads|ranges,KEYS,dense|scattered,ROUNDS,INDEX+..,THREADS+.. ; `BENCH_WORDS` says how many words the index without a
+//! lock has.
 use crate::clock::resident;
 use crate::keys::{END, SPAN, is_scattered, key, stir};
-use crate::peers::threads::{Hundred, Peer, peer};
+use crate::peers::threads::{Hundred, Peer, SEVERAL, peer};
 use crate::{row, setting};
 use std::cell::UnsafeCell;
 use std::hint::spin_loop;
@@ -35,12 +36,17 @@ enum Work {
     Range,
     /// The same, while the first thread writes.
     RangeBeside,
-    /// Ranges, each as it was at one moment: of the index without a lock alone.
+    /// Ranges, each as it was at one moment.
     AtOnce,
+    AtOnceBeside,
+    /// Look-ups of sixty-four keys, which count as one call.
+    Several,
+    /// The same by a call for all of them, where the index has one.
+    Many,
 }
 use Work::*;
 
-const WORKS: [(Work, &str); 10] = [
+const WORKS: [(Work, &str); 7] = [
     (Get, "get"),
     (Insert, "insert"),
     (Remove, "remove"),
@@ -48,10 +54,28 @@ const WORKS: [(Work, &str); 10] = [
     (Mix(5), "mix-5"),
     (Mix(50), "mix-50"),
     (Hot, "overwrite-256"),
+];
+
+const RANGES: [(Work, &str); 6] = [
     (Range, "range"),
     (RangeBeside, "range-beside-writer"),
     (AtOnce, "range-at-once"),
+    (AtOnceBeside, "range-at-once-beside-writer"),
+    (Several, "get-64"),
+    (Many, "get-many"),
 ];
+
+impl Work {
+    /// Whether the first thread writes until the others are done.
+    fn has_writer(self) -> bool {
+        matches!(self, RangeBeside | AtOnceBeside)
+    }
+
+    /// How many calls of each thread are timed.
+    fn calls(self) -> u64 {
+        if RANGES.iter().any(|it| it.0 == self) { 100 } else { 1000 }
+    }
+}
 
 #[derive(Clone, Copy)]
 struct Job {
@@ -64,7 +88,7 @@ struct Job {
 impl Job {
     /// Whether a thread of it writes until the others are done.
     fn is_writer(&self, thread: u64) -> bool {
-        self.work == RangeBeside && thread == 0
+        self.work.has_writer() && thread == 0
     }
 }
 
@@ -83,6 +107,7 @@ struct Part {
 }
 
 struct Race {
+    part: String,
     n: u64,
     kind: String,
     names: Vec<String>,
@@ -130,16 +155,21 @@ impl Race {
         }
         for _ in 0..rounds {
             for threads in words[5].split('+') {
-                jobs.extend(round(&names, threads.parse().expect("a number of threads")));
+                jobs.extend(round(works(&words[0]), names.len(), threads.parse().expect("a number of threads")));
             }
         }
         let peers = names.iter().map(|name| peer(name)).collect();
         let (parts, clock) = (Default::default(), Instant::now());
-        Race { n, kind: words[2].clone(), names, peers, jobs, begun: 0, parts, clock, salt: 0, resident: 0 }
+        Race { part: words[0].clone(), n, kind: words[2].clone(), names, peers, jobs, begun: 0, parts, clock, salt: 0, resident: 0 }
     }
 
     fn job(&self) -> Job {
         self.jobs[self.begun - 1]
+    }
+
+    /// What the job is called, where it is one that is told.
+    fn call(&self, job: Job) -> Option<&'static str> {
+        works(&self.part).iter().find(|it| it.0 == job.work).map(|it| it.1)
     }
 
     fn nanos(&self) -> u64 {
@@ -153,13 +183,13 @@ impl Race {
             let bytes = resident().saturating_sub(self.resident) as f64 / self.n as f64;
             row("memory", self.n, &self.kind, 1, "bytes", "stepped", bytes);
         }
-        let Some((_, call)) = WORKS.iter().find(|it| it.0 == job.work) else {
+        let Some(call) = self.call(job) else {
             return;
         };
         let parts = (0..job.threads).filter(|thread| !job.is_writer(*thread)).map(|thread| part(self, thread));
         let (start, end) = parts.fold((u64::MAX, 0), |(start, end), it| (start.min(it.start.unwrap()), end.max(it.end)));
         let nanos = (end - start) as f64 / job.calls as f64;
-        row("threads", self.n, &self.kind, job.threads, call, &self.names[job.index], nanos);
+        row(&self.part, self.n, &self.kind, job.threads, call, &self.names[job.index], nanos);
     }
 
     fn begin(&mut self) -> u64 {
@@ -185,17 +215,18 @@ impl Race {
     }
 }
 
+/// What a part has done, and what that is called.
+fn works(part: &str) -> &'static [(Work, &'static str)] {
+    if part == "ranges" { &RANGES } else { &WORKS }
+}
+
 /// The jobs of a round with so many threads.
-fn round(names: &[String], threads: u64) -> Vec<Job> {
+fn round(works: &[(Work, &str)], indexes: usize, threads: u64) -> Vec<Job> {
     let mut jobs = vec![];
-    for (work, _) in WORKS {
-        if work == RangeBeside && threads == 1 {
-            continue;
-        }
-        let calls = if matches!(work, Range | RangeBeside | AtOnce) { 100 } else { 1000 };
-        for index in (0..names.len()).filter(|i| names[*i] == "unlocked" || work != AtOnce) {
-            jobs.push(Job { threads, work, index, calls });
-            if matches!(work, Mix(_) | RangeBeside) {
+    for (work, _) in works.iter().copied().filter(|it| threads > 1 || !it.0.has_writer()) {
+        for index in 0..indexes {
+            jobs.push(Job { threads, work, index, calls: work.calls() });
+            if matches!(work, Mix(_)) || work.has_writer() {
                 jobs.push(Job { threads, work: Clean, index, calls: 1000 });
             }
         }
@@ -310,14 +341,15 @@ fn hundred(race: &Race, job: Job, thread: u64, keys: &mut [u64], kinds: &mut [u8
     let (part, scattered) = (part(race, thread), is_scattered(&race.kind));
     let own = race.n + 1 + thread * OWN;
     let (made, writes) = (part.made, job.is_writer(thread));
-    for (i, place) in keys.iter_mut().enumerate() {
+    let (wanted, count) = if matches!(job.work, Several | Many) { (SEVERAL, 1) } else { (100, 100) };
+    for (i, place) in keys[..wanted].iter_mut().enumerate() {
         let x = stir(&mut part.x);
         let number = match job.work {
             Fill | All => 1 + made + i as u64,
             Insert | Remove | Clean => own + made + i as u64,
-            RangeBeside if writes => own + (made + i as u64) % OWN,
+            _ if writes => own + (made + i as u64) % OWN,
             // (a range of dense keys has all its pairs)
-            Get | Overwrite | Range | RangeBeside | AtOnce => 1 + x % (race.n - SPAN as u64),
+            Get | Overwrite | Range | RangeBeside | AtOnce | AtOnceBeside | Several | Many => 1 + x % (race.n - SPAN as u64),
             Hot => 1 + x % 256,
             Mix(percent) => {
                 kinds[i] = ((x >> 40) % 100 < percent) as u8;
@@ -327,15 +359,16 @@ fn hundred(race: &Race, job: Job, thread: u64, keys: &mut [u64], kinds: &mut [u8
         };
         *place = key(number, scattered);
     }
-    part.made += 100;
+    part.made += count;
     if writes {
         part.new = part.made.min(OWN);
     }
     part.expected = match job.work {
         Fill | Insert => Some(0),
         Mix(_) => Some(kinds.iter().filter(|kind| **kind == 0).count() as u64),
-        RangeBeside if writes => None,
-        Range | RangeBeside | AtOnce if scattered => None,
+        _ if writes => None,
+        Range | RangeBeside | AtOnce | AtOnceBeside if scattered => None,
+        Several | Many => Some(SEVERAL as u64),
         Clean if part.made > part.new => None,
         _ => Some(100),
     };
@@ -344,11 +377,13 @@ fn hundred(race: &Race, job: Job, thread: u64, keys: &mut [u64], kinds: &mut [u8
         Get | All => Hundred::Get,
         Fill | Insert => Hundred::Insert(5),
         Overwrite | Hot => Hundred::Insert(bits),
-        RangeBeside if writes => Hundred::Insert(bits),
+        _ if writes => Hundred::Insert(bits),
         Remove | Clean => Hundred::Remove,
         Mix(_) => Hundred::Mix,
         Range | RangeBeside => Hundred::Range,
-        AtOnce => Hundred::AtOnce,
+        AtOnce | AtOnceBeside => Hundred::AtOnce,
+        Several => Hundred::Several,
+        Many => Hundred::Many,
     }
 }
 
@@ -356,7 +391,7 @@ fn told(thread: u64, found: u64) {
     let race = race();
     if part(race, thread).expected.is_some_and(|expected| expected != found) {
         let job = race.job();
-        let work = WORKS.iter().find(|it| it.0 == job.work).map_or("fill or clean", |it| it.1);
+        let work = race.call(job).unwrap_or("fill or clean");
         eprintln!("{}, {work}: {found} found where {:?} were expected", race.names[job.index], part(race, thread).expected);
         std::process::abort();
     }
@@ -375,6 +410,8 @@ pub unsafe extern "C" fn race_keys(thread: u64, keys: *mut u64, n: usize, kinds:
         Some(Hundred::Mix) => 4,
         Some(Hundred::Range) => 5,
         Some(Hundred::AtOnce) => 6,
+        Some(Hundred::Many) => 7,
+        Some(Hundred::Several) => 7 + 8,
     }
 }
 

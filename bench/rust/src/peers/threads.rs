@@ -14,6 +14,9 @@ pub trait Shared: Sync {
     fn range(&self, start: u64, pairs: &mut [(u64, u64); SPAN], guard: &Self::Guard) -> usize;
 }
 
+/// How many of a hundred keys are looked up together.
+pub const SEVERAL: usize = 64;
+
 /// What a thread does with a hundred keys.
 #[derive(Clone, Copy)]
 pub enum Hundred {
@@ -24,8 +27,12 @@ pub enum Hundred {
     /// An insertion where the kind is 1, a look-up elsewhere.
     Mix,
     Range,
-    /// The same, each as it was at one moment.
+    /// The same, each as it was at one moment. The original has no call for that: of it these are ranges.
     AtOnce,
+    /// Look-ups of the first sixty-four.
+    Several,
+    /// The same by a call for all of them, which the caller's indexes haven't.
+    Many,
 }
 
 /// An index that threads are given hundreds of keys for.
@@ -39,6 +46,7 @@ impl<S: Shared> Peer for S {
         let guard = &self.guard();
         match what {
             Hundred::Get => count(keys, |key| self.get(key, guard).is_some()),
+            Hundred::Several | Hundred::Many => count(&keys[..SEVERAL], |key| self.get(key, guard).is_some()),
             Hundred::Insert(bits) => count(keys, |key| self.insert(key, key ^ bits, guard).is_some()),
             Hundred::Remove => count(keys, |key| self.remove(key, guard).is_some()),
             Hundred::Mix => {
