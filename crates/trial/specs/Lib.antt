@@ -1,5 +1,6 @@
 pub mod Words
 pub mod Sessions
+pub mod SessionTexts
 pub mod Grammar
 pub mod Parsing
 pub mod Places
