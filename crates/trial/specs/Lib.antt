@@ -1,6 +1,5 @@
 pub mod Words
 pub mod Sessions
-pub mod SessionTexts
 pub mod Grammar
 pub mod Parsing
 pub mod Places

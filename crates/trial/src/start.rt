@@ -7,7 +7,6 @@ ghost use Rattle.trial.specs.Histories.{Takes, Tells};
 ghost use Rattle.trial.specs.Lockfree.{TellsLockfree};
 ghost use Rattle.trial.specs.MapReplies.{MapAnswers};
 ghost use Rattle.trial.specs.Script.{AreAnswered, status_of};
-ghost use Rattle.trial.specs.SessionTexts.{TellsSessions};
 ghost use Rattle.trial.specs.declared.arguments.Mode.{Mode};
 ghost use Rattle.trial.specs.declared.arguments.Mode.TheVariants as mode;
 ghost use Rattle.trial.specs.declared.end.End.{End};
@@ -63,7 +62,6 @@ pub fn start<T: Threads + Wait + Sync, R: Read, W: Write>(
         → Takes (Tells workers calls (exit_status result)) (W.contents writer.old) (W.contents writer.new) }
     ensures lockfree { (workers calls : ℕ) → Asks arguments.now (mode.Lockfree workers calls)
         → Takes (TellsLockfree workers calls (exit_status result)) (W.contents writer.old) (W.contents writer.new) }
-    ensures sessions { Asks arguments.now mode.Sessions → Takes (TellsSessions (exit_status result)) (W.contents writer.old) (W.contents writer.new) }
     ensures usage { ((asked : Mode) → Asks arguments.now asked → ⊥) → Takes (TellsUsage (exit_status result)) (W.contents writer.old) (W.contents writer.new) }
 {
     match arguments::read(arguments) {

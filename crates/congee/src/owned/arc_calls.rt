@@ -1,4 +1,4 @@
-//! Further calls of the tree of shared values: whether a key has one, the nearest pairs, pops, and a compute of a key, present or not.
+//! What a tree of shared values has beside its calls on one key.
 ghost use Rattle.std.specs.Prelude.{◌≡◌, ◌+◌, ◌^◌, ℕ, Some, IsSome, IsTrue, ◌↔◌, IfErr, IfNone, IfOk, IfSome, OnErr, OnOk};
 ghost use Rattle.std.specs.Arc.{arc_value};
 ghost use Rattle.std.specs.FinMap as map;
@@ -84,7 +84,7 @@ impl<K: Word64, V: Drop> CongeeArc<K, V> {
         self.owned_from(0)
     }
 
-    /// The pair of the greatest key, with one more owner of its value. It is refused as `first`.
+    /// The pair of the greatest key, so.
     pub fn last(&self) -> Result<Option<(K, Arc<V, Global>)>, Count>
         ensures found { IfOk result (TellsGreatest K.of_word arc_value self.now.pairs (2 ^ 64)) }
         ensures refused { OnErr result (HasBelow self.now.pairs (2 ^ 64)) }
@@ -92,8 +92,7 @@ impl<K: Word64, V: Drop> CongeeArc<K, V> {
         self.owned_to(u64::MAX)
     }
 
-    /// The pair of the least key that isn't less than this one, its own where it is present, with one more owner of its value. It is
-    /// refused as `first`.
+    /// The pair of the least key that isn't less than this one, so: its own, where it is present.
     pub fn at_or_after(&self, key: K) -> Result<Option<(K, Arc<V, Global>)>, Count>
         ensures found { IfOk result (TellsLeast K.of_word arc_value self.now.pairs (K.word key)) }
         ensures refused { OnErr result (HasFrom self.now.pairs (K.word key)) }
@@ -101,8 +100,7 @@ impl<K: Word64, V: Drop> CongeeArc<K, V> {
         self.owned_from(key.to_word())
     }
 
-    /// The pair of the greatest key that isn't greater than this one, its own where it is present, with one more owner of its value. It
-    /// is refused as `first`.
+    /// The pair of the greatest key that isn't greater than this one, so: its own, where it is present.
     pub fn at_or_before(&self, key: K) -> Result<Option<(K, Arc<V, Global>)>, Count>
         ensures found { IfOk result (TellsGreatest K.of_word arc_value self.now.pairs (K.word key + 1)) }
         ensures refused { OnErr result (HasBelow self.now.pairs (K.word key + 1)) }
@@ -110,8 +108,7 @@ impl<K: Word64, V: Drop> CongeeArc<K, V> {
         self.owned_to(key.to_word())
     }
 
-    /// The pair of the least key that is greater than this one, present or not, with one more owner of its value. It is refused as
-    /// `first`.
+    /// The pair of the least key that is greater than this one, present or not, so.
     pub fn next_after(&self, key: K) -> Result<Option<(K, Arc<V, Global>)>, Count>
         ensures found { IfOk result (TellsLeast K.of_word arc_value self.now.pairs (K.word key + 1)) }
         ensures refused { OnErr result (HasFrom self.now.pairs (K.word key + 1)) }
@@ -124,8 +121,7 @@ impl<K: Word64, V: Drop> CongeeArc<K, V> {
         self.owned_from(word + 1)
     }
 
-    /// The pair of the greatest key that is less than this one, present or not, with one more owner of its value. It is refused as
-    /// `first`.
+    /// The pair of the greatest key that is less than this one, present or not, so.
     pub fn next_before(&self, key: K) -> Result<Option<(K, Arc<V, Global>)>, Count>
         ensures found { IfOk result (TellsGreatest K.of_word arc_value self.now.pairs (K.word key)) }
         ensures refused { OnErr result (HasBelow self.now.pairs (K.word key)) }
@@ -146,7 +142,7 @@ impl<K: Word64, V: Drop> CongeeArc<K, V> {
         owner_of(self.arena.remove(self.alloc, &bytes))
     }
 
-    /// Takes the pair of the least key out, as `remove` does, with the tree's own owner of its value.
+    /// Takes the pair of the least key out, as `remove` does.
     pub fn pop_first(&mut self) -> Option<(K, Arc<V, Global>)>
         ensures popped { IfSome result (λ r. (k : ℕ) × (r.0 ≡ K.of_word k) × IsLeastPair self.old.pairs 0 k (arc_value r.1)
             × OwnerModifies self.old self.new (map.get self.old.goes k) (call.Remove k) (reply.Remove (Some (arc_value r.1)))) }
@@ -161,7 +157,7 @@ impl<K: Word64, V: Drop> CongeeArc<K, V> {
         }
     }
 
-    /// Takes the pair of the greatest key out, as `remove` does, with the tree's own owner of its value.
+    /// Takes the pair of the greatest key out, as `remove` does.
     pub fn pop_last(&mut self) -> Option<(K, Arc<V, Global>)>
         ensures popped { IfSome result (λ r. (k : ℕ) × (r.0 ≡ K.of_word k) × IsGreatestPair self.old.pairs (2 ^ 64) k (arc_value r.1)
             × OwnerModifies self.old self.new (map.get self.old.goes k) (call.Remove k) (reply.Remove (Some (arc_value r.1)))) }
@@ -189,8 +185,7 @@ impl<K: Word64, V: Drop> CongeeArc<K, V> {
     }
 
     /// Puts the answer of `f` at a key, present or not, and gives the value before. It asks `f` once, about one more owner of the
-    /// value that is there. A refused call changes nothing: where that value can't have one more owner, `f` isn't asked; where there is
-    /// no room for a node, the answer comes back.
+    /// value that is there. A refused call changes nothing.
     pub fn compute_or_insert<F: FnOnce(Option<Arc<V, Global>>) -> Arc<V, Global>>(
         &mut self,
         key: K,

@@ -44,7 +44,6 @@ fn is_past(key: u64, last: Option<u64>) -> bool
 
 impl<K: Word64, V: Word64, A: Allocator> Congee<K, V, A, NoDrain> {
     /// A tree of pairs whose keys ascend, over the allocator. It is refused for a pair out of order, budget or memory.
-    /// A pair goes in from the node where the one before it did, and only where its key leaves that one, from the root.
     pub fn from_sorted<I: IntoIterator<Item = (K, V)> + Drop>(
         alloc: Global,
         allocator: A,
@@ -74,8 +73,7 @@ impl<K: Word64, V: Word64, A: Allocator> Congee<K, V, A, NoDrain> {
 }
 
 impl<K: Word64, V: Word64, A: Allocator, D: Drop> Congee<K, V, A, D> {
-    /// A tree of the same pairs over another allocator, or over this one's copy. The pairs go in one after the other, ascending,
-    /// each as `from_sorted` puts it in.
+    /// A tree of the same pairs over another allocator, or over this one's copy. The pairs go in one after the other, ascending.
     pub fn try_clone<B: Allocator>(
         &self,
         alloc: Global,

@@ -134,8 +134,7 @@ impl<V: Word64, A: Allocator, D: Drop> U64Congee<V, A, D> {
         self.tree.extend(pairs)
     }
 
-    /// A tree of the same pairs over another allocator, or over this one's copy. The pairs go in one after the other, ascending,
-    /// each as `from_sorted` puts it in.
+    /// A tree of the same pairs over another allocator, or over this one's copy. The pairs go in one after the other, ascending.
     pub fn try_clone<B: Allocator>(
         &self,
         alloc: Global,
@@ -160,7 +159,6 @@ impl<V: Word64, A: Allocator, D: Drop> U64Congee<V, A, D> {
 
 impl<V: Word64, A: Allocator> U64Congee<V, A, NoDrain> {
     /// A tree of pairs whose keys ascend, over the allocator. It is refused for a pair out of order, budget or memory.
-    /// A pair goes in from the node where the one before it did, and only where its key leaves that one, from the root.
     pub fn from_sorted<I: IntoIterator<Item = (u64, V)> + Drop>(
         alloc: Global,
         allocator: A,

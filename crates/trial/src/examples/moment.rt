@@ -81,18 +81,13 @@ fn reads_put<'t, R: Wait>(
 
 /// Opens an index and puts 10 at 1. Then a thread reads all keys below 100, while another puts 20 at 2: by `reads_put` what is
 /// read are the pairs of one moment, as some log has them, which has the call at 1.
-pub fn reads_beside<R: Threads + Wait + Sync>(rt: &R, alloc: Global) -> Option<Read>
-    ensures { IfSome result (λ r. (log : List Entry) × HasCall 1 (Some 10) log × IsRange log 0 100 8 (take r.count r.pairs)) }
-{
+pub fn reads_beside<R: Threads + Wait + Sync>(rt: &R, alloc: Global) -> Option<Read> {
     let index = U64Congee::new(alloc, 10_000).ok()?;
     let index = &index;
     let seen = puts(rt, index, alloc, 1, 10)?;
     let (read, put) = join(
         rt,
-        move || -> Option<Read>
-            requires { (seen.index ≡ index.now.tree.nodes.table.shared.table_id) × HasCall 1 (Some 10) seen.seen }
-            ensures { IfSome result (λ r. (log : List Entry) × HasCall 1 (Some 10) log × IsRange log 0 100 8 (take r.count r.pairs)) }
-        { reads_put(rt, index, alloc, seen, 1, 10) },
+        move || reads_put(rt, index, alloc, seen, 1, 10),
         move || puts(rt, index, alloc, 2, 20),
     );
     match (read, put) {

@@ -1,13 +1,13 @@
 -- A key's way from a slot on, and an open leaf.
-use Rattle.std.proofs.Common.{◌≡◌, ℕ, ◌*◌, Bool, true, false, List, length, get_or, refl, sym, ap, subst, ◌∙◌, arith}
+use Rattle.std.proofs.Common.{◌≡◌, ℕ, ◌+◌, ◌*◌, ◌%◌, Bool, true, false, List, length, get_or, refl, sym, ap, subst, ◌∙◌, arith}
 use Rattle.std.specs.Prelude.{Option, None, Some, is_some, not}
 use Rattle.std.specs.Borrow.{Bor}
 use Rattle.std.specs.Option.{option_copied, option_map}
 use Rattle.std.specs.FinMap as map
 use Rattle.slab.specs.Slab.{Slab, get}
-use Rattle.congee.specs.Heap.{Below, fits, child_for}
-use Rattle.congee.specs.forms.Forms.{children_of, is_full_of, prefix_of}
-use Rattle.congee.specs.owned.Arena.{Nodes, IsTree, OnWay, heap_of, node_of}
+use Rattle.congee.specs.Heap.{Below, Holds, fits, child_for}
+use Rattle.congee.specs.forms.Forms.{children_of, form_of, is_full_of, next_form, prefix_of}
+use Rattle.congee.specs.owned.Arena.{Nodes, IsTree, OnWay, Hangs, heap_of, node_of}
 use Rattle.congee.specs.owned.Kinds.{full_in, prefix_in}
 use Rattle.congee.specs.owned.Naming.{HasOwnSlot}
 use Rattle.congee.specs.owned.OwnedSteps.{IsHeld, MakesRoom}
@@ -18,7 +18,7 @@ use Rattle.congee.specs.declared.forms.base_node.Node.{Node}
 use Rattle.congee.specs.declared.forms.child.Child.TheVariants.{Value}
 use Rattle.congee.specs.declared.owned.place.Place.{Place}
 use Rattle.congee.specs.declared.owned.place.Spot.{Spot}
-use Rattle.congee.specs.declared.owned.place.Spot.TheVariants.{Held, Apart}
+use Rattle.congee.specs.declared.owned.place.Spot.TheVariants.{Held, Free, Apart}
 use Rattle.congee.specs.declared.owned.slots.Slot.{Slot}
 use Rattle.congee.specs.declared.owned.slots.Slot.TheVariants.{Leaf}
 use Rattle.congee.proofs.lemmas.owned.Hangings.{inline_hangs}

@@ -1,5 +1,6 @@
 use Rattle.std.proofs.Common.{rules, ◌≡◌, ◌+◌, ◌<◌, ◌^◌, None, Some, arith}
 use Rattle.std.specs.FinMap as map
+use Rattle.congee.specs.owned.Counted.{one_if}
 use Rattle.congee.specs.owned.Table.{pairs_of}
 use Rattle.congee.proofs.lemmas.owned.Counted.{few_pairs, len_changes, adds_with}
 use Rattle.congee.proofs.owned.arena.Arena.insert_here.Goals as goal

@@ -1,5 +1,8 @@
-use Rattle.std.proofs.Common.{sym, ap, ◌∙◌}
+use Rattle.std.proofs.Common.{◌≡◌, sym, ap, ◌∙◌}
+use Rattle.std.specs.Prelude.{Some}
 use Rattle.std.specs.Option.{option_copied}
+use Rattle.slab.specs.Slab.{get}
+use Rattle.congee.specs.declared.owned.slots.Slot.TheVariants.{Leaf}
 use Rattle.congee.proofs.lemmas.owned.Appending.{slot_open}
 use Rattle.congee.proofs.owned.nodes.Nodes.is_open.Goals as goal
 
