@@ -3,6 +3,7 @@
 
 use super::lanes::{Task, count_of, ran};
 use super::waits::waits;
+use crate::examples::bounds::{Ends, PLACES, ends_within, keys_within};
 use crate::tests::asserts::assert_same;
 use optimistic::{Pair, Unscanned, Walk, Worker};
 use std::alloc::Global;
@@ -141,6 +142,34 @@ fn are_bound<R: Wait>(rt: &R, worker: &mut Worker) -> bool {
         && worker.range_inclusive(rt, 257, 256, &mut many) == 0
 }
 
+/// The keys of the first and the last pair within bounds.
+fn keys_of(ends: Ends) -> (Option<u64>, Option<u64>) {
+    (key_of(ends.first), key_of(ends.last))
+}
+
+/// Whether looks within bounds tell what stands there, and keys alone those of a scan.
+fn are_within<R: Wait>(rt: &R, worker: &mut Worker) -> bool {
+    let mut keys = [9; PLACES];
+    let found = [
+        keys_of(ends_within(rt, worker, 2, 254)),
+        keys_of(ends_within(rt, worker, 1, 256)),
+        keys_of(ends_within(rt, worker, 257, 256)),
+        keys_of(ends_within(rt, worker, 0, u64::MAX)),
+    ];
+    found
+        == [
+            (None, None),
+            (Some(1), Some(256)),
+            (None, None),
+            (Some(0), Some(u64::MAX)),
+        ]
+        && keys_within(rt, worker, 257, 256, &mut keys) == 0
+        && keys_within(rt, worker, 1, 256, &mut keys) == 3
+        && keys == [1, 255, 256, 9, 9, 9, 9, 9]
+        && keys_within(rt, worker, 0, u64::MAX, &mut keys) == PLACES
+        && keys[7] == 4_294_967_296
+}
+
 /// The same of ranges at one moment.
 fn are_moments_bound<R: Wait>(rt: &R, alloc: Global, worker: &mut Worker) -> bool {
     let mut few = [UNWRITTEN; 3];
@@ -178,6 +207,7 @@ pub fn are_far_told<R: Wait>(rt: &R, alloc: Global, worker: &mut Worker) -> bool
     }
     are_neighbours(rt, worker)
         && are_bound(rt, worker)
+        && are_within(rt, worker)
         && are_moments_bound(rt, alloc, worker)
         && are_walked(rt, worker)
 }
