@@ -5,6 +5,7 @@ use super::lanes::{Task, count_of, ran};
 use super::waits::waits;
 use crate::examples::bounds::{Ends, PLACES, ends_within, keys_within};
 use crate::tests::asserts::assert_same;
+use crate::tests::machine::drawn::number_in;
 use optimistic::{Pair, Unscanned, Walk, Worker};
 use std::alloc::Global;
 use std::sync::Wait;
@@ -13,8 +14,8 @@ use std::test::Fail;
 
 const AMPLE: u32 = 1_000_000;
 
-/// How many rounds each thread makes.
-const ROUNDS: u64 = 300;
+/// How many rounds each thread makes, where the sweep doesn't ask for more.
+const ROUNDS: u32 = 300;
 
 /// Beside writers the keys that stay: so many, so far apart, each with itself as its value.
 const FIXED: u64 = 40;
@@ -213,13 +214,13 @@ pub fn are_far_told<R: Wait>(rt: &R, alloc: Global, worker: &mut Worker) -> bool
 }
 
 /// Counts the first key up and then the second.
-fn counts_up<R: Wait>(rt: &R, worker: &mut Worker, clock: &AtomicU64) -> bool {
+fn counts_up<R: Wait>(rt: &R, worker: &mut Worker, clock: &AtomicU64, rounds: u64) -> bool {
     let mut right = true;
     for n in 1..=FIXED {
         let key = n.wrapping_mul(APART);
         right &= worker.insert(rt, key, key).is_ok();
     }
-    for round in 0..ROUNDS {
+    for round in 0..rounds {
         right &= worker.insert(rt, FIRST, round).is_ok();
         right &= worker.insert(rt, SECOND, round).is_ok();
         clock.fetch_max(READY, Ordering::SeqCst);
@@ -228,9 +229,9 @@ fn counts_up<R: Wait>(rt: &R, worker: &mut Worker, clock: &AtomicU64) -> bool {
 }
 
 /// Puts keys between those that stay and takes them out, so that nodes come and go.
-fn disturbs<R: Wait>(rt: &R, worker: &mut Worker, place: u32) -> bool {
+fn disturbs<R: Wait>(rt: &R, worker: &mut Worker, place: u32, rounds: u64) -> bool {
     let mut right = true;
-    for round in 0..ROUNDS {
+    for round in 0..rounds {
         let key = (round.wrapping_mul(7) % FIXED + 1).wrapping_mul(APART);
         let away = key.wrapping_add(u64::from(place));
         let far = away.wrapping_mul(65_537);
@@ -267,10 +268,10 @@ fn agree(pairs: &[Pair]) -> bool {
 }
 
 /// Looks over and over whether a scan holds the keys that stay, and whether the two counts agree at one moment.
-fn observes<R: Wait>(rt: &R, alloc: Global, worker: &mut Worker) -> bool {
+fn observes<R: Wait>(rt: &R, alloc: Global, worker: &mut Worker, rounds: u64) -> bool {
     let mut out = [UNWRITTEN; 256];
     let mut right = true;
-    for _ in 0..ROUNDS {
+    for _ in 0..rounds {
         let scanned = worker
             .range(rt, APART, FIXED * APART + 1, &mut out)
             .min(256);
@@ -293,29 +294,29 @@ pub fn are_beside<R: Wait>(
     worker: &mut Worker,
     clock: &AtomicU64,
     place: u32,
+    rounds: u64,
 ) -> bool {
     if place == 0 {
-        return counts_up(rt, worker, clock);
+        return counts_up(rt, worker, clock, rounds);
     }
     waits(rt, clock, READY);
     if place < APART as u32 {
-        disturbs(rt, worker, place)
+        disturbs(rt, worker, place, rounds)
     } else {
-        observes(rt, alloc, worker)
+        observes(rt, alloc, worker, rounds)
     }
 }
 
-/// Tasks, with how many threads do them.
-const TASKS: [(Task, u32); 4] = [
-    (Task::Forms(1), 1),
-    (Task::Forms(1_000), 1),
-    (Task::Far, 1),
-    (Task::Beside, 5),
-];
-
 #[test]
 fn scans_tell_what_stands(rt: HostRuntime) -> Result<(), Fail> {
-    for (number, (task, threads)) in TASKS.iter().enumerate() {
+    let rounds = u64::from(number_in(&rt, "TRIAL_CALLS", ROUNDS));
+    let tasks = [
+        (Task::Forms(1), 1),
+        (Task::Forms(1_000), 1),
+        (Task::Far, 1),
+        (Task::Beside(rounds), 5u32),
+    ];
+    for (number, (task, threads)) in tasks.iter().enumerate() {
         let (lanes, _pairs) = ran(&rt, rt.alloc(), AMPLE, *threads, *task)?;
         assert_same(&rt, (number, count_of(&lanes)), (number, *threads as usize));
     }
