@@ -6,8 +6,6 @@
 #[cfg(test)]
 pub mod bounded;
 #[cfg(test)]
-pub mod bounds;
-#[cfg(test)]
 pub mod closing;
 #[cfg(test)]
 pub mod collector;
@@ -32,8 +30,6 @@ pub mod many;
 pub mod moment;
 #[cfg(test)]
 pub mod owned;
-#[cfg(test)]
-pub mod owners;
 #[cfg(test)]
 pub mod pages;
 #[cfg(test)]

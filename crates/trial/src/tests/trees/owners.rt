@@ -1,6 +1,5 @@
 //! What a tree of shared values is asked as any ordered map.
 
-use crate::examples::owners::{Texts, keep_or_put, next_from, sum_of_numbers, take_first};
 use crate::tests::asserts::assert_same;
 use congee::{CongeeArc, Count};
 use std::alloc::{AllocError, Global};
@@ -131,33 +130,5 @@ fn a_for_takes_a_tree_of_owners(rt: HostRuntime) -> Result<(), Fail> {
         sum = sum.wrapping_mul(10).wrapping_add(key).wrapping_add(*value);
     }
     assert_same(&rt, (last, sum), (Some((3, 9)), 26));
-    Ok(())
-}
-
-/// A text that others may own too.
-fn text(alloc: Global, word: &str) -> Result<Arc<String, Global>, AllocError> {
-    let text = format!(in alloc; "{word}")?;
-    Ok(Arc::new(alloc, text)?)
-}
-
-#[test]
-fn shared_texts_are_kept_and_go(rt: HostRuntime) -> Result<(), Fail> {
-    let alloc = rt.alloc();
-    let mut texts: Texts = match CongeeArc::new(alloc) {
-        Ok(texts) => texts,
-        Err(_) => return Ok(()),
-    };
-    let put = [
-        matches!(keep_or_put(&mut texts, 7, text(alloc, "seven")?), Ok(false)),
-        matches!(keep_or_put(&mut texts, 7, text(alloc, "none")?), Ok(true)),
-        matches!(keep_or_put(&mut texts, 9, text(alloc, "nine")?), Ok(false)),
-    ];
-    let next = matches!(next_from(&texts, 8), Ok(Some((9, _))));
-    let taken = matches!(take_first(&mut texts), Some((7, _)));
-    assert_same(
-        &rt,
-        (put, (next, taken), sum_of_numbers(texts)),
-        ([true, true, true], (true, true), 9),
-    );
     Ok(())
 }

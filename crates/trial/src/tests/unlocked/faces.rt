@@ -2,7 +2,6 @@
 
 use super::lanes::{Task, count_of, ran};
 use super::{leave, opened};
-use crate::examples::bounds::count_of as pairs_of;
 use crate::examples::many::tells_all;
 use crate::tests::asserts::assert_same;
 use optimistic::{Congee, Pair, Pairs, U64Congee, Walk, WordWorker, Worker};
@@ -46,7 +45,6 @@ fn words_answer<R: Wait>(rt: &R, worker: &mut WordWorker<u64, u64>) -> bool {
 /// Whether scans of words tell what stands, from both ends, by steps and at one moment.
 fn words_are_scanned<R: Wait>(rt: &R, alloc: Global, worker: &mut WordWorker<u64, u64>) -> bool {
     let mut out = [Pair { key: 0, value: 0 }; 3];
-    let mut keys = [0; 3];
     let mut walk = Walk::new(4, 9);
     let put = [worker.insert(rt, 3, 4), worker.insert(rt, 5, 6)];
     let found = [
@@ -58,8 +56,6 @@ fn words_are_scanned<R: Wait>(rt: &R, alloc: Global, worker: &mut WordWorker<u64
         worker.next_before(rt, &3),
         worker.step(rt, &mut walk),
         worker.step(rt, &mut walk),
-        worker.first_in(rt, &4, &9),
-        worker.last_in(rt, &0, &4),
     ];
     let (least, greatest) = (Some((3, 4)), Some((5, 6)));
     let counts = [
@@ -75,12 +71,7 @@ fn words_are_scanned<R: Wait>(rt: &R, alloc: Global, worker: &mut WordWorker<u64
         worker.try_range_inclusive_at_once(alloc, &0, &5, &mut out),
     ];
     put == [Ok(None), Ok(None)]
-        && found
-            == [
-                least, greatest, None, greatest, least, None, greatest, None, greatest, least,
-            ]
-        && worker.keys(rt, &0, &9, &mut keys) == 2
-        && keys == [3, 5, 0]
+        && found == [least, greatest, None, greatest, least, None, greatest, None]
         && counts == [1, 2]
         && moments == [Ok(1), Ok(2)]
         && tried == [Ok(1), Ok(2)]
@@ -166,17 +157,12 @@ fn a_closed_index_tells_its_pairs(rt: HostRuntime) -> Result<(), Fail> {
     let Some(mut pairs) = closed(&rt, rt.alloc())? else {
         panic!(rt; "an index that isn't closed");
     };
-    let count = matches!(pairs_of(&pairs), Ok(5));
     let first = pairs.next();
     let rest = sum_of(&mut pairs);
     let end = pairs.next();
     drop(pairs);
     let is_first = matches!(first, Ok(Some(Pair { key: 7, value: 2 })));
     let is_end = matches!(end, Ok(None));
-    assert_same(
-        &rt,
-        ((count, is_first), rest, is_end),
-        ((true, true), Some(97_495), true),
-    );
+    assert_same(&rt, (is_first, rest, is_end), (true, Some(97_495), true));
     Ok(())
 }

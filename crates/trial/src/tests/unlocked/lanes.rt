@@ -37,8 +37,8 @@ pub enum Task {
     Forms(u64),
     /// Scans of keys in different nodes.
     Far,
-    /// So many rounds of scans beside writers.
-    Beside(u64),
+    /// Scans beside writers.
+    Beside,
 }
 
 /// The calls of each thread, and the pairs of the index that was closed after them.
@@ -78,9 +78,7 @@ fn does<R: Wait>(
         Task::Together(has_room) => one_if(alloc, go_together(rt, worker, has_room)),
         Task::Forms(step) => one_if(alloc, are_forms_told(rt, alloc, worker, step)),
         Task::Far => one_if(alloc, are_far_told(rt, alloc, worker)),
-        Task::Beside(rounds) => {
-            one_if(alloc, are_beside(rt, alloc, worker, clock, place, rounds))
-        }
+        Task::Beside => one_if(alloc, are_beside(rt, alloc, worker, clock, place)),
     }
 }
 

@@ -3,9 +3,7 @@
 
 use super::lanes::{Task, count_of, ran};
 use super::waits::waits;
-use crate::examples::bounds::{Ends, PLACES, ends_within, keys_within};
 use crate::tests::asserts::assert_same;
-use crate::tests::machine::drawn::number_in;
 use optimistic::{Pair, Unscanned, Walk, Worker};
 use std::alloc::Global;
 use std::sync::Wait;
@@ -14,8 +12,8 @@ use std::test::Fail;
 
 const AMPLE: u32 = 1_000_000;
 
-/// How many rounds each thread makes, where the sweep doesn't ask for more.
-const ROUNDS: u32 = 300;
+/// How many rounds each thread makes.
+const ROUNDS: u64 = 300;
 
 /// Beside writers the keys that stay: so many, so far apart, each with itself as its value.
 const FIXED: u64 = 40;
@@ -143,34 +141,6 @@ fn are_bound<R: Wait>(rt: &R, worker: &mut Worker) -> bool {
         && worker.range_inclusive(rt, 257, 256, &mut many) == 0
 }
 
-/// The keys of the first and the last pair within bounds.
-fn keys_of(ends: Ends) -> (Option<u64>, Option<u64>) {
-    (key_of(ends.first), key_of(ends.last))
-}
-
-/// Whether looks within bounds tell what stands there, and keys alone those of a scan.
-fn are_within<R: Wait>(rt: &R, worker: &mut Worker) -> bool {
-    let mut keys = [9; PLACES];
-    let found = [
-        keys_of(ends_within(rt, worker, 2, 254)),
-        keys_of(ends_within(rt, worker, 1, 256)),
-        keys_of(ends_within(rt, worker, 257, 256)),
-        keys_of(ends_within(rt, worker, 0, u64::MAX)),
-    ];
-    found
-        == [
-            (None, None),
-            (Some(1), Some(256)),
-            (None, None),
-            (Some(0), Some(u64::MAX)),
-        ]
-        && keys_within(rt, worker, 257, 256, &mut keys) == 0
-        && keys_within(rt, worker, 1, 256, &mut keys) == 3
-        && keys == [1, 255, 256, 9, 9, 9, 9, 9]
-        && keys_within(rt, worker, 0, u64::MAX, &mut keys) == PLACES
-        && keys[7] == 4_294_967_296
-}
-
 /// The same of ranges at one moment.
 fn are_moments_bound<R: Wait>(rt: &R, alloc: Global, worker: &mut Worker) -> bool {
     let mut few = [UNWRITTEN; 3];
@@ -208,19 +178,18 @@ pub fn are_far_told<R: Wait>(rt: &R, alloc: Global, worker: &mut Worker) -> bool
     }
     are_neighbours(rt, worker)
         && are_bound(rt, worker)
-        && are_within(rt, worker)
         && are_moments_bound(rt, alloc, worker)
         && are_walked(rt, worker)
 }
 
 /// Counts the first key up and then the second.
-fn counts_up<R: Wait>(rt: &R, worker: &mut Worker, clock: &AtomicU64, rounds: u64) -> bool {
+fn counts_up<R: Wait>(rt: &R, worker: &mut Worker, clock: &AtomicU64) -> bool {
     let mut right = true;
     for n in 1..=FIXED {
         let key = n.wrapping_mul(APART);
         right &= worker.insert(rt, key, key).is_ok();
     }
-    for round in 0..rounds {
+    for round in 0..ROUNDS {
         right &= worker.insert(rt, FIRST, round).is_ok();
         right &= worker.insert(rt, SECOND, round).is_ok();
         clock.fetch_max(READY, Ordering::SeqCst);
@@ -229,9 +198,9 @@ fn counts_up<R: Wait>(rt: &R, worker: &mut Worker, clock: &AtomicU64, rounds: u6
 }
 
 /// Puts keys between those that stay and takes them out, so that nodes come and go.
-fn disturbs<R: Wait>(rt: &R, worker: &mut Worker, place: u32, rounds: u64) -> bool {
+fn disturbs<R: Wait>(rt: &R, worker: &mut Worker, place: u32) -> bool {
     let mut right = true;
-    for round in 0..rounds {
+    for round in 0..ROUNDS {
         let key = (round.wrapping_mul(7) % FIXED + 1).wrapping_mul(APART);
         let away = key.wrapping_add(u64::from(place));
         let far = away.wrapping_mul(65_537);
@@ -268,10 +237,10 @@ fn agree(pairs: &[Pair]) -> bool {
 }
 
 /// Looks over and over whether a scan holds the keys that stay, and whether the two counts agree at one moment.
-fn observes<R: Wait>(rt: &R, alloc: Global, worker: &mut Worker, rounds: u64) -> bool {
+fn observes<R: Wait>(rt: &R, alloc: Global, worker: &mut Worker) -> bool {
     let mut out = [UNWRITTEN; 256];
     let mut right = true;
-    for _ in 0..rounds {
+    for _ in 0..ROUNDS {
         let scanned = worker
             .range(rt, APART, FIXED * APART + 1, &mut out)
             .min(256);
@@ -294,29 +263,29 @@ pub fn are_beside<R: Wait>(
     worker: &mut Worker,
     clock: &AtomicU64,
     place: u32,
-    rounds: u64,
 ) -> bool {
     if place == 0 {
-        return counts_up(rt, worker, clock, rounds);
+        return counts_up(rt, worker, clock);
     }
     waits(rt, clock, READY);
     if place < APART as u32 {
-        disturbs(rt, worker, place, rounds)
+        disturbs(rt, worker, place)
     } else {
-        observes(rt, alloc, worker, rounds)
+        observes(rt, alloc, worker)
     }
 }
 
+/// Tasks, with how many threads do them.
+const TASKS: [(Task, u32); 4] = [
+    (Task::Forms(1), 1),
+    (Task::Forms(1_000), 1),
+    (Task::Far, 1),
+    (Task::Beside, 5),
+];
+
 #[test]
 fn scans_tell_what_stands(rt: HostRuntime) -> Result<(), Fail> {
-    let rounds = u64::from(number_in(&rt, "TRIAL_CALLS", ROUNDS));
-    let tasks = [
-        (Task::Forms(1), 1),
-        (Task::Forms(1_000), 1),
-        (Task::Far, 1),
-        (Task::Beside(rounds), 5u32),
-    ];
-    for (number, (task, threads)) in tasks.iter().enumerate() {
+    for (number, (task, threads)) in TASKS.iter().enumerate() {
         let (lanes, _pairs) = ran(&rt, rt.alloc(), AMPLE, *threads, *task)?;
         assert_same(&rt, (number, count_of(&lanes)), (number, *threads as usize));
     }
