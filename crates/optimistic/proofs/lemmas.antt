@@ -2,6 +2,7 @@ pub mod face
 pub mod CopyLemmas
 pub mod FillLemmas
 pub mod MoveLemmas
+pub mod desk
 pub mod drain
 pub mod PairLemmas
 pub mod forms

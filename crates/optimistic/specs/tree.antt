@@ -8,10 +8,12 @@ pub mod Nexts
 pub mod Raises
 pub mod Reads
 pub mod Replace
+pub mod Runs
 pub mod Sets
 pub mod Sights
 pub mod Sizes
 pub mod Takes
+pub mod Trades
 pub mod Trails
 pub mod Trees
 pub mod Wholes

@@ -5,6 +5,7 @@ mod computes;
 mod congee;
 mod index;
 mod many;
+mod pool;
 mod refusal;
 mod scans;
 mod seen;

@@ -2,6 +2,7 @@
 #![tactic(auto)]
 
 mod changes;
+mod desk;
 mod drain;
 mod face;
 mod fill;

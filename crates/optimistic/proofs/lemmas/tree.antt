@@ -15,6 +15,7 @@ pub mod Raising
 pub mod Reading
 pub mod Rebuilding
 pub mod Replaced
+pub mod Runs
 pub mod Sets
 pub mod Sights
 pub mod Reshaping

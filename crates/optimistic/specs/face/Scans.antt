@@ -1,14 +1,14 @@
 -- What scans tell: pairs that stood at moments within the call. A moment is a log of decided calls that begins with all that the worker had
 -- seen when it called, and with which all begins that it has seen in the end.
-use Rattle.std.specs.Prelude.{◌≡◌, ◌≢◌, ◌⊎◌, ℕ, ◌+◌, ◌-◌, ◌^◌, ◌<◌, ◌≤◌, min, List, [], ◌∷◌, length, map, Bool, MatchBool, Option, None, Some}
+use Rattle.std.specs.Prelude.{◌≡◌, ◌≢◌, ◌⊎◌, ℕ, ◌+◌, ◌-◌, ◌^◌, ◌<◌, ◌≤◌, min, List, [], ◌∷◌, length, map, Bool, MatchBool, Option, None, Some, IfSome}
 use Rattle.std.specs.List.{AllPairs, Contains}
 use Rattle.optimistic.specs.declared.drain.nexts.Pair.{Pair}
 use Rattle.optimistic.specs.declared.words.rule.Entry.{Entry}
 use Rattle.optimistic.specs.words.Kept.{value_of, StartsWith}
-use Rattle.optimistic.specs.tree.Drained.{pair_of}
-use Rattle.optimistic.specs.declared.tree.trail.Told.{Told}
+use Rattle.optimistic.specs.tree.Drained.{IsDrained, pair_of}
+use Rattle.optimistic.specs.declared.tree.run.Run.{Run}
 use Rattle.optimistic.specs.tree.Nexts.{IsFirst, IsLast, IsFirstIn, IsLastIn, HasNone}
-use Rattle.optimistic.specs.tree.Trails.{Says}
+use Rattle.optimistic.specs.tree.Runs.{behind}
 use Rattle.optimistic.specs.tree.Wholes.{IsRange}
 use Rattle.optimistic.specs.face.Calls.{Known, Looked}
 
@@ -23,9 +23,13 @@ pub record Once (P : List Entry → Type 0) (v w : Known) : Type 0 where
 abbrev pub FirstFrom : ℕ → Option Pair → Known → Known → Type 0
 FirstFrom from r v w = Looked v w × Once (λ log. IsFirst log from r) v w
 
--- at one moment this was so of a key
-abbrev pub ToldOf : ℕ → Told → Known → Known → Type 0
-ToldOf from t v w = Looked v w × Once (λ log. Says log from t) v w
+-- at one moment these were the pairs of the keys from one on and below the next that is to be told, which is a later one, and of one node
+pub record IsRunOf (r : Run) (from last places : ℕ) (pairs : List Pair) (v w : Known) : Type 0 where
+  pub looked : Looked v w
+  pub few : r.count ≤ places
+  pub later : from < behind last r.next
+  pub inside : IfSome r.next (λ k. k ≤ last)
+  pub once : Once (λ log. IsDrained log from (behind last r.next) pairs) v w
 
 -- at one moment this was the last pair below a key, or there was none
 abbrev pub LastBelow : ℕ → Option Pair → Known → Known → Type 0

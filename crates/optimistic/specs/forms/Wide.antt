@@ -30,3 +30,7 @@ pub record HasPlace (key taken : ℕ → ℕ) (b : ℕ) : Type 0 where
   pub place : ℕ
   pub taken_there : taken place ≡ 1
   pub byte : key place ≡ b
+
+-- of each byte whose bit is set, a taken place that has it
+abbrev pub HasPlaces : (key taken : ℕ → ℕ) → (masks places : List ℕ) → Type 0
+HasPlaces key taken masks places = (b : ℕ) → b < 256 → bit_in masks b ≡ 1 → (taken (get_or places b 0) ≡ 1) × (key (get_or places b 0) ≡ b)

@@ -1,6 +1,6 @@
 -- What a thread learns of the next pair from a key on as it reads a node word by word.
-use Rattle.std.specs.Prelude.{◌≡◌, ℕ, ◌≤◌, List, None, Some}
-use Rattle.optimistic.specs.Layout.{byte_at}
+use Rattle.std.specs.Prelude.{◌≡◌, ℕ, ◌<◌, ◌≤◌, List, get_or, None, Some}
+use Rattle.optimistic.specs.Layout.{byte_at, room}
 use Rattle.optimistic.specs.declared.drain.nexts.Next.{Next}
 use Rattle.optimistic.specs.declared.drain.nexts.Next.TheVariants.{Here, Down, After}
 use Rattle.optimistic.specs.declared.tree.place.Place.{Place}
@@ -9,8 +9,9 @@ use Rattle.optimistic.specs.declared.tree.next.Sight.{Sight}
 use Rattle.optimistic.specs.declared.words.rule.Entry.{Entry}
 use Rattle.optimistic.specs.declared.words.rule.Moment.{Moment}
 use Rattle.optimistic.specs.declared.words.rule.View.{View}
-use Rattle.optimistic.specs.forms.Children.{first_of, second_of, IsForm}
+use Rattle.optimistic.specs.forms.Children.{byte_in, taken_in, first_of, second_of, IsForm}
 use Rattle.optimistic.specs.forms.Gaps.{IsGap, HasOnly}
+use Rattle.optimistic.specs.forms.Wide.{bit_in, HasPlaces}
 use Rattle.optimistic.specs.words.Kept.{word_at, value_of, Since, Sound}
 use Rattle.optimistic.specs.tree.Nexts.{IsNext, UpTo}
 use Rattle.optimistic.specs.tree.Reads.{Agrees, IsPlace}
@@ -23,6 +24,13 @@ Lacks node form from to v w = (f : ℕ → ℕ) → Agrees node form v w f → I
 -- each of its children is at a byte whose bit is set
 abbrev pub Only : ℕ → ℕ → List ℕ → View → View → Type 0
 Only node form masks v w = (f : ℕ → ℕ) → Agrees node form v w f → IsForm form f → HasOnly form f masks
+
+-- of each of these bytes the place is known
+abbrev pub Places : (node form : ℕ) → (masks places : List ℕ) → View → View → Type 0
+Places node form masks places v w = (f : ℕ → ℕ) → Agrees node form v w f → IsForm form f → HasPlaces (byte_in form f) (taken_in form f) masks places
+
+abbrev pub IsWithin : ℕ → (masks places : List ℕ) → Type 0
+IsWithin form masks places = (b : ℕ) → b < 256 → bit_in masks b ≡ 1 → get_or places b 0 < room form
 
 -- its children tell this of the next pair from a key on
 abbrev pub Shows : Place → ℕ → Next → View → View → Type 0

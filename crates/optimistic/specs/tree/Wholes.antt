@@ -3,7 +3,7 @@ use Rattle.std.specs.Prelude.{◌≡◌, ◌⊎◌, ℕ, ◌<◌, ◌≤◌, Lis
 use Rattle.std.specs.List.{Contains}
 use Rattle.optimistic.specs.Layout.{width}
 use Rattle.optimistic.specs.declared.drain.nexts.Pair.{Pair}
-use Rattle.optimistic.specs.declared.tree.next.Sight.{Sight}
+use Rattle.optimistic.specs.declared.tree.run.Run.{Run}
 use Rattle.optimistic.specs.declared.tree.whole.Mark.{Mark}
 use Rattle.optimistic.specs.declared.words.rule.Entry.{Entry}
 use Rattle.optimistic.specs.declared.words.rule.Moment.{Moment}
@@ -22,8 +22,8 @@ AreSeen marks v = (m : Mark) → Contains marks m → HasForm m.node m.form v ×
 abbrev pub IsSteadfast : List Mark → Moment → Type 0
 IsSteadfast marks b = (m : Mark) → Contains marks m → word_at b.words m.node 0 ≡ m.version
 
--- what is kept in mind of a sight
-abbrev pub mark_of : Sight → Mark
+-- what is kept in mind of what a node told
+abbrev pub mark_of : Run → Mark
 mark_of s = record { node = s.at.node; form = s.at.form; version = s.version }
 
 -- these marks are those, and perhaps one more, which is among them

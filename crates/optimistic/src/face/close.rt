@@ -33,7 +33,8 @@ impl U64Congee {
         ensures pairs { IfOk result (λ p. IsClosed last.seen last.made last.by p) }
         ensures locked { IfErr result (λ _. HasNoRoot last.seen last.made last.by) }
     {
-        let U64Congee { tree } = self;
+        let U64Congee { tree, pool } = self;
+        drop(pool);
         let Retired { hand } = last;
         tree.close(hand)
     }

@@ -3,6 +3,7 @@ ghost use Rattle.std.specs.Prelude.{◌≡◌, [], IfOk, MatchResult};
 ghost use Rattle.optimistic.specs.words.Kept.{calls_by};
 ghost use Rattle.optimistic.specs.face.Refusals.{IsSize, IsUnopened};
 
+use crate::face::pool::Pool;
 use crate::face::refusal::Unopened;
 use crate::face::worker::Worker;
 use crate::tree::Tree;
@@ -20,6 +21,8 @@ pub const MOST_WORDS: usize = (1 << 48) - 1;
 #[derive(Drop)]
 pub struct U64Congee {
     pub(crate) tree: Tree,
+    pub(crate) pool: Pool,
+    ghost one: { pool ≡ tree.nodes.table.shared.table_id },
 }
 
 impl U64Congee {
@@ -33,7 +36,8 @@ impl U64Congee {
             return Err(Unopened::Words);
         }
         let tree = Tree::new(alloc, words)?;
-        Ok(U64Congee { tree })
+        let pool = Pool::new(alloc, &tree)?;
+        Ok(U64Congee { tree, pool })
     }
 
     /// A worker for a thread. It has seen some beginning of the log, in which no call is its own.
@@ -41,6 +45,6 @@ impl U64Congee {
         ensures index { IfOk result (λ w. w.index ≡ self.now.tree.nodes.table.shared.table_id) }
         ensures new { IfOk result (λ w. (w.made ≡ []) × (calls_by w.by w.seen ≡ [])) }
     {
-        Worker::new(alloc, &self.tree)
+        Worker::new(alloc, &self.tree, &self.pool)
     }
 }

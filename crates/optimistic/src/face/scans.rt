@@ -4,12 +4,13 @@
 //! it and the key that was asked for. Of a range it is one for each pair, and these moments rise.
 ghost use Rattle.std.specs.Prelude.{◌≡◌, ℕ, ◌+◌, ◌≤◌, ◌^◌, length, take, drop};
 ghost use Rattle.optimistic.specs.face.Calls.{Saw};
-ghost use Rattle.optimistic.specs.face.Scans.{FirstFrom, LastBelow, FirstIn, LastIn, Emptiness, IsScan, AreKeys, Counts, ToldOf};
+ghost use Rattle.optimistic.specs.face.Scans.{FirstFrom, LastBelow, FirstIn, LastIn, Emptiness, IsScan, AreKeys, Counts, IsRunOf};
 ghost use Rattle.optimistic.specs.tree.Trails.{IsTrail};
 
 use crate::drain::Pair;
 use crate::face::worker::Worker;
-use crate::tree::trail::{Told, Trail};
+use crate::tree::run::{BUFFER, Run, fewer, put_all, put_keys};
+use crate::tree::trail::Trail;
 use std::sync::Wait;
 
 impl<'t> Worker<'t> {
@@ -104,13 +105,25 @@ impl<'t> Worker<'t> {
         }
     }
 
-    /// What is told of a key, as it was at one moment within the call.
-    fn told_of<R: Wait>(&mut self, rt: &R, trail: &mut Trail, from: u64) -> Told
-        requires { IsTrail trail.old self.old.moment }
-        ensures told { ToldOf from result self.old self.new }
+    /// What is told of the keys from one on, as it was at one moment within the call: as many of them as one node tells of.
+    fn run<R: Wait>(
+        &mut self,
+        rt: &R,
+        trail: &mut Trail,
+        from: u64,
+        last: u64,
+        pairs: &mut [Pair],
+        places: usize,
+    ) -> Run
+        requires trail { IsTrail trail.old self.old.moment }
+        requires order { from ≤ last }
+        requires room { places ≤ length pairs.old }
+        ensures run { IsRunOf result from last places (take result.count pairs.new) self.old self.new }
+        ensures same { length pairs.new ≡ length pairs.old }
         ensures trail { IsTrail trail.new self.new.moment }
     {
-        self.tree.told_of(rt, &mut self.hand, trail, from)
+        self.tree
+            .run(rt, &mut self.hand, trail, from, last, pairs, places)
     }
 
     /// Writes pairs with start <= key < end into `out`, ascending, and gives their number. Each stood at a moment within the
@@ -145,24 +158,17 @@ impl<'t> Worker<'t> {
             return 0;
         }
         let mut trail = self.tree.trail(&self.hand);
+        let mut pairs = [Pair { key: 0, value: 0 }; BUFFER];
         let mut from = start;
         let mut count = 0;
         while count < out.len() {
-            match self.told_of(rt, &mut trail, from) {
-                Told::Value(value) => {
-                    out[count] = Pair { key: from, value };
-                    count += 1;
-                    if from == last {
-                        return count;
-                    }
-                    from += 1;
-                }
-                Told::NoneTo(to) => {
-                    if to >= last {
-                        return count;
-                    }
-                    from = to + 1;
-                }
+            let places = fewer(out.len() - count, BUFFER);
+            let run = self.run(rt, &mut trail, from, last, &mut pairs, places);
+            put_all(out, count, &pairs, run.count);
+            count += run.count;
+            match run.next {
+                Some(next) => from = next,
+                None => return count,
             }
         }
         count
@@ -181,24 +187,17 @@ impl<'t> Worker<'t> {
             return 0;
         }
         let mut trail = self.tree.trail(&self.hand);
+        let mut pairs = [Pair { key: 0, value: 0 }; BUFFER];
         let mut from = start;
         let mut count = 0;
         while count < out.len() {
-            match self.told_of(rt, &mut trail, from) {
-                Told::Value(_) => {
-                    out[count] = from;
-                    count += 1;
-                    if from == last {
-                        return count;
-                    }
-                    from += 1;
-                }
-                Told::NoneTo(to) => {
-                    if to >= last {
-                        return count;
-                    }
-                    from = to + 1;
-                }
+            let places = fewer(out.len() - count, BUFFER);
+            let run = self.run(rt, &mut trail, from, last, &mut pairs, places);
+            put_keys(out, count, &pairs, run.count);
+            count += run.count;
+            match run.next {
+                Some(next) => from = next,
+                None => return count,
             }
         }
         count
@@ -214,23 +213,15 @@ impl<'t> Worker<'t> {
             return 0;
         }
         let mut trail = self.tree.trail(&self.hand);
+        let mut pairs = [Pair { key: 0, value: 0 }; BUFFER];
         let mut from = start;
         let mut count = 0u64;
         loop {
-            match self.told_of(rt, &mut trail, from) {
-                Told::Value(_) => {
-                    count = count.saturating_add(1);
-                    if from == last {
-                        return count;
-                    }
-                    from += 1;
-                }
-                Told::NoneTo(to) => {
-                    if to >= last {
-                        return count;
-                    }
-                    from = to + 1;
-                }
+            let run = self.run(rt, &mut trail, from, last, &mut pairs, BUFFER);
+            count = count.saturating_add(run.count as u64);
+            match run.next {
+                Some(next) => from = next,
+                None => return count,
             }
         }
     }

@@ -6,28 +6,31 @@ ghost use Rattle.optimistic.specs.face.Calls.{Saw, Looked, Found};
 ghost use Rattle.optimistic.specs.face.Workers.{IsWritten, WantsRoom};
 
 use crate::face::close::Retired;
+use crate::face::pool::Pool;
 use crate::face::refusal::Refusal;
 use crate::face::seen::Seen;
 use crate::face::writes::{Written, came_of, outcome_of};
-use crate::tree::{Free, Set, Tree, Want, Write};
+use crate::tree::{ATTEMPTS, Free, Set, Tree, Want, Write};
 use crate::words::Hand;
 use std::alloc::{AllocError, Global};
+use std::hint::spin_loop;
 use std::marker::Model;
 use std::mem::replace;
 use std::sync::Wait;
 
-/// A thread's hand at an index, with the names of the nodes that it freed. These are lost when it is dropped or given back: such
-/// nodes aren't used again before the index is closed.
-#[derive(Drop)]
+/// A thread's hand at an index, with the names of some nodes that were freed. Those that it has beyond a few, and all when it is
+/// given back, it leaves to the index's other workers.
 pub struct Worker<'t> {
     pub(crate) tree: &'t Tree,
     pub(crate) hand: Hand,
     free: Free,
     /// The moment at which the names were last used.
     names: Hand,
+    pool: &'t Pool,
 }
 
 impl<'t> Model for Worker<'t> {
+    ghost use Rattle.std.specs.Prelude.{◌≡◌};
     ghost use Rattle.optimistic.specs.face.Calls.{Known};
     ghost use Rattle.optimistic.specs.face.Workers.{known, HasNone, HasNames};
     ghost use Rattle.optimistic.specs.words.Told.{IsOf};
@@ -36,12 +39,20 @@ impl<'t> Model for Worker<'t> {
 
     ghost view = { λ w. known w.tree.now.nodes.table.shared.table_id w.hand.me.0 };
 
-    ghost invariant = { λ w. IsOf w.tree.now.nodes.table.shared.table_id w.hand × HasNone w.hand.me.0 × HasNames w.tree.now.nodes.table.shared.table_id w.free w.names };
+    ghost invariant = { λ w. IsOf w.tree.now.nodes.table.shared.table_id w.hand × HasNone w.hand.me.0 × HasNames w.tree.now.nodes.table.shared.table_id w.free w.names × (w.pool.now ≡ w.tree.now.nodes.table.shared.table_id) };
+}
+
+impl<'t> Drop for Worker<'t> {
+    fn drop(self) {
+        let retired = self.retire();
+        drop(retired);
+    }
 }
 
 impl<'t> Worker<'t> {
     /// A worker that has made no call.
-    pub(crate) fn new(alloc: Global, tree: &'t Tree) -> Result<Self, AllocError>
+    pub(crate) fn new(alloc: Global, tree: &'t Tree, pool: &'t Pool) -> Result<Self, AllocError>
+        requires { pool.now ≡ tree.now.nodes.table.shared.table_id }
         ensures index { IfOk result (λ w. w.index ≡ tree.now.nodes.table.shared.table_id) }
         ensures new { IfOk result (λ w. (w.made ≡ []) × (calls_by w.by w.seen ≡ [])) }
     {
@@ -53,6 +64,7 @@ impl<'t> Worker<'t> {
             hand,
             free,
             names,
+            pool,
         })
     }
 
@@ -102,23 +114,71 @@ impl<'t> Worker<'t> {
         self.tree.nodes.heed(&mut self.hand, note);
     }
 
-    /// Gives the worker back, and keeps what it knows.
-    pub fn retire(self) -> Retired
+    /// Trades names of free nodes with the other workers, or leaves all to them. Tells whether there are more than before, or
+    /// another worker was trading.
+    fn trade(&mut self, leaves: bool) -> bool
+        ensures { self.new ≡ self.old }
+    {
+        self.pool
+            .trade(self.tree, &mut self.free, &mut self.names, leaves)
+    }
+
+    /// Leaves all names to the other workers, unless one of them trades all the while.
+    fn leave(&mut self)
+        ensures { self.new ≡ self.old }
+    {
+        for _ in 0..ATTEMPTS {
+            if !self.trade(true) {
+                return;
+            }
+            spin_loop();
+        }
+    }
+
+    /// Gives the worker back, and keeps what it knows. Names that it has are left to others.
+    pub fn retire(mut self) -> Retired
         ensures { result ≡ self.entry }
     {
+        self.leave();
         let Worker {
             tree: _,
             hand,
             free,
             names,
+            pool: _,
         } = self;
         drop(free);
         drop(names);
         Retired { hand }
     }
 
+    /// The same once more, after a trade where that gave names.
+    fn reshape_again(&mut self, write: Write, want: Want) -> Result<Written, Refusal>
+        requires { calls_by self.old.by self.old.seen ≡ self.old.made }
+        ensures { IsWritten write self.old self.new result }
+    {
+        if self.trade(false) {
+            return Err(Refusal::Again);
+        }
+        self.reshape(write, want)
+    }
+
     /// Makes a write as it changes which nodes there are.
     fn try_reshape(&mut self, write: Write, want: Want) -> Result<Written, Refusal>
+        ensures { IsWritten write self.old self.new result }
+    {
+        let others = self.pool.stocked() & !self.free.stocked();
+        if others != 0 || self.free.is_laden() {
+            self.trade(false);
+        }
+        match self.reshape(write, want) {
+            Err(Refusal::Full) => self.reshape_again(write, want),
+            done => done,
+        }
+    }
+
+    /// Makes a write as it changes which nodes there are, with words at the end and names of its own.
+    fn reshape(&mut self, write: Write, want: Want) -> Result<Written, Refusal>
         ensures { IsWritten write self.old self.new result }
     {
         let now = self.tree.nodes.note(&mut self.hand);

@@ -4,7 +4,7 @@ ghost use Rattle.std.specs.FinMap as map;
 ghost use Rattle.optimistic.specs.forms.Held.{held, IsNode};
 ghost use Rattle.std.specs.Int.{bit_at};
 ghost use Rattle.optimistic.specs.forms.Bytes.{key_of};
-ghost use Rattle.optimistic.specs.forms.Wide.{bit_in, IsNext, HasPlace};
+ghost use Rattle.optimistic.specs.forms.Wide.{bit_in, IsNext, HasPlace, HasPlaces};
 
 use crate::forms::bits::{lowest, with_bit, without_bit};
 use crate::forms::bytes::byte_at;
@@ -49,18 +49,19 @@ pub fn next_byte(masks: &[u64; 4], from: usize) -> Option<usize>
     None
 }
 
-/// A bit for each byte that a taken place has.
-pub fn bytes_taken<const N: usize>(words: &[u64; N], mask: u64) -> [u64; 4]
+/// A bit for each byte that a taken place has, and of each of them its place.
+pub fn places_taken<const N: usize>(words: &[u64; N], mask: u64, places: &mut [u8; 256]) -> [u64; 4]
     requires few { N ≤ 6 }
     requires fits { mask < 2 ^ (8 * N) }
     ensures bytes { (b : ℕ) → b < 256 → (bit_in result b ≡ 1) ↔ HasPlace (key_of words.now) (bit_at mask) b }
-    ensures map { (entry : ℕ → ℕ) (b : ℕ) → b < 256 → IsNode (key_of words.now) (bit_at mask) (8 * N) → (bit_in result b ≡ 1) ↔ IsSome (map.get (held (key_of words.now) (bit_at mask) entry (8 * N)) b) }
+    ensures places { HasPlaces (key_of words.now) (bit_at mask) result places.new }
 {
     let mut masks = [0; 4];
     let mut rest = mask;
     while rest != 0 {
         let place = lowest(rest);
         let byte = byte_at(words[place / 8], place % 8) as usize;
+        places[byte] = place as u8;
         masks[byte / 64] = with_bit(masks[byte / 64], byte % 64);
         rest = without_bit(rest, place);
     }

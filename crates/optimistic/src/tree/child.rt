@@ -248,7 +248,7 @@ impl Tree {
 
     /// The lone leaf at a byte of a node of 256 values.
     #[inline(always)]
-    fn value_of_wide(&self, hand: &mut Hand, node: usize, key: u64, byte: u8) -> Child
+    pub fn value_of_wide(&self, hand: &mut Hand, node: usize, key: u64, byte: u8) -> Child
         requires of { IsOf self.now.nodes.table.shared.table_id hand.old }
         requires at { HasForm node 8 (view hand.old) }
         ensures of { IsOf self.now.nodes.table.shared.table_id hand.new }

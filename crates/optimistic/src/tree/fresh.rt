@@ -15,7 +15,7 @@ use std::alloc::{AllocError, Global};
 /// sees whether it is free.
 #[derive(Drop)]
 pub struct Free {
-    lists: Vec<Vec<usize>>,
+    pub(crate) lists: Vec<Vec<usize>>,
 }
 
 /// A node that the hand has, which covers no key, and its version.
@@ -41,15 +41,17 @@ impl Free {
     pub fn give(&mut self, node: usize, form: u64)
         requires forms { length self.old.lists.items ≡ 9 }
         requires form { (0 < form) × (form < 9) }
-        ensures { (v : View) → HasForm node form v → IsFreeOf self.old v → IsFreeOf self.new v }
+        ensures forms { length self.new.lists.items ≡ 9 }
+        ensures names { (v : View) → HasForm node form v → IsFreeOf self.old v → IsFreeOf self.new v }
     {
         let _ = self.lists[form as usize].push(node);
     }
 
     /// The last name of a node of this form.
-    fn pop(&mut self, form: u64) -> Option<usize>
+    pub(crate) fn pop(&mut self, form: u64) -> Option<usize>
         requires forms { length self.old.lists.items ≡ 9 }
         requires form { (0 < form) × (form < 9) }
+        ensures forms { length self.new.lists.items ≡ 9 }
         ensures names { (v : View) → IsFreeOf self.old v → IsFreeOf self.new v }
         ensures name { (v : View) → IsFreeOf self.old v → IfSome result (λ n. HasForm n form v) }
     {

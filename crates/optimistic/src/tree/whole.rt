@@ -2,20 +2,20 @@
 //!
 //! Each node that tells of some keys is kept in mind, with the version at which it did. If all of them have these versions after
 //! the last was read, then all that they told held at that moment.
-ghost use Rattle.std.specs.Prelude.{◌≡◌, ◌+◌, ◌<◌, ◌≤◌, ◌⊎◌, ℕ, [], true, length, take, IfOk};
+ghost use Rattle.std.specs.Prelude.{◌≡◌, ◌+◌, ◌<◌, ◌≤◌, ◌⊎◌, ℕ, [], true, length, take, IfOk, IfSome};
 ghost use Rattle.optimistic.specs.declared.drain.nexts.Pair.{Pair};
 ghost use Rattle.optimistic.specs.words.Calls.{Keeps, Later};
 ghost use Rattle.optimistic.specs.words.Kept.{Since};
 ghost use Rattle.optimistic.specs.words.Told.{view, IsOf, Looks};
+ghost use Rattle.optimistic.specs.tree.Runs.{behind};
 ghost use Rattle.optimistic.specs.tree.Sights.{Stood};
 ghost use Rattle.optimistic.specs.tree.Trails.{IsTrail};
 ghost use Rattle.optimistic.specs.tree.Trees.{IsTree};
 ghost use Rattle.optimistic.specs.tree.Wholes.{AreSeen, IsSteadfast, HasMore, IsCollected, IsRange, Went, mark_of};
 
 use crate::drain::Pair;
-use crate::drain::nexts::Next;
 use crate::tree::get::{ATTEMPTS, Tree};
-use crate::tree::next::Sight;
+use crate::tree::run::{BUFFER, Run, fewer, put_all};
 use crate::tree::trail::Trail;
 use crate::words::Hand;
 use std::alloc::{AllocError, Global};
@@ -40,28 +40,21 @@ pub struct Mark {
     pub version: u64,
 }
 
-/// The last key that was told, and how many pairs stand.
+/// The key from which on is still to be told, if there is one, and how many pairs stand.
 #[derive(Clone, Copy, Drop)]
 pub struct Reached {
-    pub last: u64,
+    pub next: Option<u64>,
     pub count: usize,
 }
 
-/// The lesser of two keys.
-fn lesser(a: u64, b: u64) -> u64
-    ensures { (result ≤ a) × (result ≤ b) × ((result ≡ a) ⊎ (result ≡ b)) }
-{
-    if a < b { a } else { b }
-}
-
-/// What is to be kept in mind of a sight.
-fn mark_of(sight: Sight) -> Mark
-    ensures { result ≡ mark_of sight }
+/// What is to be kept in mind of what a node told.
+fn mark_of(run: Run) -> Mark
+    ensures { result ≡ mark_of run }
 {
     Mark {
-        node: sight.at.node,
-        form: sight.at.form,
-        version: sight.version,
+        node: run.at.node,
+        form: run.at.form,
+        version: run.version,
     }
 }
 
@@ -96,7 +89,7 @@ fn remember(marks: &mut Vec<Mark>, mark: Mark) -> Result<(), Unscanned>
 }
 
 impl Tree {
-    /// One node more is asked: a pair is written, or keys up to a later one are passed over, up to `last` at most.
+    /// One node more is asked, for as many pairs as there are places.
     fn collect_one(
         &self,
         hand: &mut Hand,
@@ -104,42 +97,33 @@ impl Tree {
         from: u64,
         last: u64,
         marks: &mut Vec<Mark>,
+        pairs: &mut [Pair],
         out: &mut [Pair],
         count: usize,
     ) -> Result<Reached, Unscanned>
         requires of { IsOf self.now.nodes.table.shared.table_id hand.old }
         requires trail { IsTrail trail.old (view hand.old).seen }
         requires order { from ≤ last }
-        requires room { count < length out.old }
+        requires room { count ≤ length out.old }
         ensures of { IsOf self.now.nodes.table.shared.table_id hand.new }
         ensures looks { Looks IsTree (view hand.old) (view hand.new) }
         ensures trail { IsTrail trail.new (view hand.new).seen }
-        ensures order { IfOk result (λ r. (from ≤ r.last) × (r.last ≤ last) × (r.count ≤ length out.new)) }
+        ensures order { IfOk result (λ r. (from < behind last r.next) × IfSome r.next (λ k. k ≤ last) × (r.count ≤ length out.new)) }
         ensures same { length out.new ≡ length out.old }
+        ensures buffer { length pairs.new ≡ length pairs.old }
         ensures collected { (start : ℕ) → IsCollected marks.old.items start from (take count out.old) (view hand.old)
-            → IfOk result (λ r. IsCollected marks.new.items start (r.last + 1) (take r.count out.new) (view hand.new)) }
+            → IfOk result (λ r. IsCollected marks.new.items start (behind last r.next) (take r.count out.new) (view hand.new)) }
     {
-        let Some(sight) = self.sight_by(hand, trail, from) else {
+        let places = fewer(out.len() - count, pairs.len());
+        let Some(run) = self.look_by(hand, trail, from, last, pairs, places) else {
             return Err(Unscanned::Again);
         };
-        remember(marks, mark_of(sight))?;
-        match sight.next {
-            Next::Here(value) => {
-                out[count] = Pair { key: from, value };
-                Ok(Reached {
-                    last: from,
-                    count: count + 1,
-                })
-            }
-            Next::Down(_) => Err(Unscanned::Again),
-            Next::After(end) => {
-                let reached = lesser(end, last);
-                Ok(Reached {
-                    last: reached,
-                    count,
-                })
-            }
-        }
+        remember(marks, mark_of(run))?;
+        put_all(out, count, pairs, run.count);
+        Ok(Reached {
+            next: run.next,
+            count: count + run.count,
+        })
     }
 
     /// The pairs of a range, and the nodes that told of it.
@@ -153,7 +137,6 @@ impl Tree {
     ) -> Result<usize, Unscanned>
         requires of { IsOf self.now.nodes.table.shared.table_id hand.old }
         requires order { start ≤ last }
-        requires room { 0 < length out.old }
         requires none { marks.old.items ≡ [] }
         ensures of { IsOf self.now.nodes.table.shared.table_id hand.new }
         ensures looks { Looks IsTree (view hand.old) (view hand.new) }
@@ -162,22 +145,28 @@ impl Tree {
             × ((next ≡ last + 1) ⊎ ((next ≤ last + 1) × (n ≡ length out.old))))) }
     {
         let mut trail = self.trail(hand);
-        let mut reached = self.collect_one(hand, &mut trail, start, last, marks, out, 0)?;
-        while reached.last < last {
+        let mut pairs = [Pair { key: 0, value: 0 }; BUFFER];
+        let mut reached = self.collect_one(
+            hand, &mut trail, start, last, marks, &mut pairs, out, 0,
+        )?;
+        loop {
+            let Some(from) = reached.next else {
+                return Ok(reached.count);
+            };
             if reached.count == out.len() {
                 return Ok(reached.count);
             }
             reached = self.collect_one(
                 hand,
                 &mut trail,
-                reached.last + 1,
+                from,
                 last,
                 marks,
+                &mut pairs,
                 out,
                 reached.count,
             )?;
         }
-        Ok(reached.count)
     }
 
     /// Whether each node that is kept in mind still has its version.

@@ -1,14 +1,14 @@
 -- The pairs that a log makes, one after the other.
-use Rattle.std.proofs.Common.{◌≡◌, ℕ, suc, zero, ◌+◌, ◌^◌, ◌<◌, ◌≤◌, List, [], ◌∷◌, ◌++◌, get_or, length, length-append, arith, ap, sym, ◌∙◌, subst, inl, inr, Option, None, Some, unwrap_or}
+use Rattle.std.proofs.Common.{◌≡◌, ℕ, suc, zero, ◌+◌, ◌-◌, ◌^◌, ◌<◌, ◌≤◌, List, [], ◌∷◌, ◌++◌, get_or, length, length-append, arith, ap, sym, ◌∙◌, subst, inl, inr, Option, None, Some, unwrap_or}
 use Rattle.std.specs.List.{AllPairs, Contains}
 use Rattle.std.proofs.Math.ListN.{get_or-append}
-use Rattle.std.proofs.Math.Seq.{get_or-append_seam}
+use Rattle.std.proofs.Math.Seq.{get_or-append_seam, get_or-append_right}
 use Rattle.std.proofs.lemmas.Bool.{cases_lt}
 use Rattle.std.proofs.lemmas.List.Elements.{Contains-append_left, Contains-append_right, Contains-append_cases, All-contains_itself}
 use Rattle.optimistic.specs.declared.drain.nexts.Pair.{Pair}
 use Rattle.optimistic.specs.declared.words.rule.Entry.{Entry}
 use Rattle.optimistic.specs.words.Kept.{value_of}
-use Rattle.optimistic.specs.tree.Nexts.{IsFirst}
+use Rattle.optimistic.specs.tree.Nexts.{IsFirst, HasNone}
 use Rattle.optimistic.specs.tree.Drained.{IsDrained, pair_of}
 use Rattle.optimistic.proofs.lemmas.drain.Keys.{no_pair}
 
@@ -75,3 +75,48 @@ module _ (log : List Entry) (from to : ℕ) (xs : List Pair) (old : IsDrained lo
         ]
       ];
     }
+
+-- no key up to a later one has a value
+pub drained_pass : (log : List Entry) (from to end : ℕ) (xs : List Pair) → IsDrained log from to xs → to ≤ end → HasNone log to end → IsDrained log from end xs
+drained_pass log from to end xs old order none = record {
+  ascending = old.ascending;
+  told = λ p c. let t = old.told p c in let a = t.1 in (t.0, omega (arith, a, order), t.2);
+  all = λ key value above below is. elim (cases_lt key to) [
+    | inl m ↦ old.all key value above m is
+    | inr m ↦ absurd (no_pair value (value_of key log) is (none key m below))
+  ];
+}
+
+-- lists of pairs, one behind the other
+pub ascends_both : (xs ys : List Pair) → AllPairs (λ (p q : Pair). p.key < q.key) xs → AllPairs (λ (p q : Pair). p.key < q.key) ys → ((p q : Pair) → Contains xs p → Contains ys q → p.key < q.key) → AllPairs (λ (p q : Pair). p.key < q.key) (xs ++ ys)
+ascends_both xs ys a b apart i j d l m = elim (cases_lt j (length xs)) [
+  | inl n ↦
+      let k : i < length xs = omega (arith, l, n) in
+      subst (λ (z : Pair × Pair). z.0.key < z.1.key) (λ t. (sym (get_or-append xs ys d i k) t, sym (get_or-append xs ys d j n) t)) (a i j d l n)
+  | inr n ↦
+      let long : length (xs ++ ys) ≡ length xs + length ys = length-append xs ys in
+      let low : j - length xs < length ys = omega (arith, long, m, n) in
+      let last : get_or (xs ++ ys) j d ≡ get_or ys (j - length xs) d = get_or-append_right xs ys j d n in
+      elim (cases_lt i (length xs)) [
+        | inl k ↦
+            subst (λ (z : Pair × Pair). z.0.key < z.1.key) (λ t. (sym (get_or-append xs ys d i k) t, sym last t))
+            (apart (get_or xs i d) (get_or ys (j - length xs) d) (All-contains_itself xs i d k) (All-contains_itself ys (j - length xs) d low))
+        | inr k ↦
+            let before : i - length xs < j - length xs = omega (arith, l, k) in
+            subst (λ (z : Pair × Pair). z.0.key < z.1.key) (λ t. (sym (get_or-append_right xs ys i d k) t, sym last t)) (b (i - length xs) (j - length xs) d before low)
+      ]
+]
+
+-- the pairs from one key on, and those behind them
+pub drained_append : (log : List Entry) (from mid to : ℕ) (xs ys : List Pair) → from ≤ mid → mid ≤ to → IsDrained log from mid xs → IsDrained log mid to ys → IsDrained log from to (xs ++ ys)
+drained_append log from mid to xs ys up down a b = record {
+  ascending = ascends_both xs ys a.ascending b.ascending (λ p q c d. let l = (a.told p c).1 in let m = (b.told q d).0 in omega (arith, l, m));
+  told = λ p c. elim (Contains-append_cases xs ys p c) [
+    | inl o ↦ let t = a.told p o in let l = t.1 in (t.0, omega (arith, l, down), t.2)
+    | inr o ↦ let t = b.told p o in let l = t.0 in (omega (arith, l, up), t.1, t.2)
+  ];
+  all = λ key value above below is. elim (cases_lt key mid) [
+    | inl m ↦ Contains-append_left xs ys (pair_of key value) (a.all key value above m is)
+    | inr m ↦ Contains-append_right xs ys (pair_of key value) (b.all key value m below is)
+  ];
+}

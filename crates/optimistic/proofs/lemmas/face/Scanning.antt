@@ -1,25 +1,20 @@
 -- What a scan has found so far, pair by pair.
-use Rattle.std.proofs.Common.{◌≡◌, ℕ, ◌+◌, ◌-◌, ◌^◌, ◌<◌, ◌≤◌, ◌⊎◌, min, List, [], ◌∷◌, ◌++◌, get_or, length, length-append, arith, ap, sym, ◌∙◌, refl, subst, inl, inr, true, false, set, take, None, Some}
+use Rattle.std.proofs.Common.{◌≡◌, ℕ, ◌+◌, ◌-◌, ◌^◌, ◌<◌, ◌≤◌, ◌⊎◌, min, List, [], ◌∷◌, ◌++◌, length, length-append, Option, arith, ap, sym, ◌∙◌, refl, inl, inr, true, false, None, Some}
 use Rattle.std.specs.List.{AllPairs, Contains}
 use mathlib.Core.List.{append-nil, append_assoc}
-use Rattle.std.proofs.Math.ListN.{get_or-append}
-use Rattle.std.proofs.Math.Seq.{get_or-append_seam}
 use Rattle.std.proofs.lemmas.Bool.{cases_lt}
-use Rattle.std.proofs.lemmas.List.{take_more_set}
-use Rattle.std.proofs.lemmas.List.Elements.{Contains-append_left, Contains-append_right, Contains-append_cases, All-contains_itself}
+use Rattle.std.proofs.lemmas.List.Elements.{Contains-append_left, Contains-append_right, Contains-append_cases}
 use Rattle.optimistic.specs.declared.drain.nexts.Pair.{Pair}
 use Rattle.optimistic.specs.declared.words.rule.Entry.{Entry}
 use Rattle.optimistic.specs.words.Kept.{value_of, StartsWith}
-use Rattle.optimistic.specs.tree.Drained.{pair_of}
+use Rattle.optimistic.specs.tree.Drained.{IsDrained, pair_of}
 use Rattle.optimistic.specs.tree.Nexts.{HasNone}
 use Rattle.optimistic.specs.tree.Wholes.{IsRange}
 use Rattle.optimistic.specs.face.Calls.{Known, Saw}
-use Rattle.optimistic.specs.declared.tree.trail.Told.TheVariants.{Value, NoneTo}
-use Rattle.optimistic.specs.face.Scans.{Once, FirstFrom, LastBelow, FirstIn, LastIn, Emptiness, Rise, StoodThroughout, HasKey, IsScan, Counts, ToldOf}
+use Rattle.optimistic.specs.face.Scans.{Once, FirstFrom, LastBelow, FirstIn, LastIn, Emptiness, Rise, StoodThroughout, HasKey, IsScan, Counts}
 use Rattle.optimistic.proofs.lemmas.face.Knowing.{saw_refl, saw_trans}
 use Rattle.optimistic.proofs.lemmas.drain.Keys.{no_pair}
-use Rattle.optimistic.proofs.lemmas.drain.Lists.{drained_none, only_one}
-use Rattle.optimistic.proofs.lemmas.tree.Sights.{first_here}
+use Rattle.optimistic.proofs.lemmas.drain.Lists.{drained_none, ascends_both}
 
 pub starts_trans : (a b c : List Entry) → StartsWith b a → StartsWith c b → StartsWith c a
 starts_trans a b c p q = (p.0 ++ q.0, q.1 ∙ (ap (λ (l : List Entry). l ++ q.0) p.1 ∙ append_assoc a p.0 q.0))
@@ -27,10 +22,6 @@ starts_trans a b c p q = (p.0 ++ q.0, q.1 ∙ (ap (λ (l : List Entry). l ++ q.0
 pub rise_to : (seen : List Entry) (ps : List Pair) (mid end : List Entry) → Rise seen ps mid → StartsWith end mid → Rise seen ps end
 rise_to seen [] mid end r s = starts_trans seen mid end r s
 rise_to seen (p ∷ ps) mid end r s = (r.0, r.1, r.2, rise_to r.0 ps mid end r.3 s)
-
-pub rise_more : (seen : List Entry) (ps : List Pair) (mid log end : List Entry) (p : Pair) → Rise seen ps mid → StartsWith log mid → value_of p.key log ≡ Some p.value → StartsWith end log → Rise seen (ps ++ p ∷ []) end
-rise_more seen [] mid log end p r s is t = (log, starts_trans seen mid log r s, is, t)
-rise_more seen (q ∷ qs) mid log end p r s is t = (r.0, r.1, r.2, rise_more r.0 qs mid log end p r.3 s is t)
 
 pub once_from : (P : List Entry → Type 0) (u v w : Known) → Saw u v → Once P v w → Once P u w
 once_from P u v w s t = record { log = t.log; after = starts_trans u.seen v.seen t.log s.3 t.after; before = t.before; holds = t.holds }
@@ -73,67 +64,40 @@ either_way key u v w pairs more s o = elim o [
   | inr l ↦ inr (once_to (λ log. value_of key log ≡ None) u v w l s)
 ]
 
-module _ (from next : ℕ) (v u w : Known) (pairs : List Pair) (old : IsSoFar from next v u pairs) where
-  -- one more pair, the first of those that are still to come
-  module _ (p : Pair) (first : FirstFrom next (Some p) u w) where
-    long : length (pairs ++ p ∷ []) ≡ length pairs + 1
-    long = length-append pairs (p ∷ [])
+-- each pair of a run stood at one moment
+rise_at : (log : List Entry) (ps : List Pair) (end : List Entry) → ((p : Pair) → Contains ps p → value_of p.key log ≡ Some p.value) → StartsWith end log → Rise log ps end
+rise_at log [] end is s = s
+rise_at log (p ∷ ps) end is s = (log, ([], sym (append-nil log)), is p (Contains-append_left (p ∷ []) ps p (0, omega arith, refl)), rise_at log ps end (λ q c. is q (Contains-append_right (p ∷ []) ps q c)) s)
 
-    later : Saw u w
-    later = first.0.0
+rise_both : (seen : List Entry) (xs ys : List Pair) (mid log end : List Entry) → Rise seen xs mid → StartsWith log mid → Rise log ys end → Rise seen (xs ++ ys) end
+rise_both seen [] ys mid log end r s t = rise_from seen mid log ys end r s t
+  where
+    rise_from : (seen mid log : List Entry) (ys : List Pair) (end : List Entry) → StartsWith mid seen → StartsWith log mid → Rise log ys end → Rise seen ys end
+    rise_from seen mid log [] end r s t = starts_trans seen mid end r (starts_trans mid log end s t)
+    rise_from seen mid log (y ∷ ys) end r s t = (t.0, starts_trans seen mid t.0 r (starts_trans mid log t.0 s t.1), t.2, t.3)
+rise_both seen (x ∷ xs) ys mid log end r s t = (r.0, r.1, r.2, rise_both r.0 xs ys mid log end r.3 s t)
 
-    ascends : AllPairs (λ (q r : Pair). q.key < r.key) (pairs ++ p ∷ [])
-    ascends i j d l m = elim (cases_lt j (length pairs)) [
-      | inl n ↦
-          let k : i < length pairs = omega arith in
-          subst (λ (z : Pair × Pair). z.0.key < z.1.key) (λ t. (sym (get_or-append pairs (p ∷ []) d i k) t, sym (get_or-append pairs (p ∷ []) d j n) t)) (old.ascending i j d l n)
-      | inr n ↦
-          let e : j ≡ length pairs = omega (arith, long) in
-          let k : i < length pairs = omega (arith, e) in
-          let there : get_or (pairs ++ p ∷ []) j d ≡ p = ap (λ (z : ℕ). get_or (pairs ++ p ∷ []) z d) e ∙ get_or-append_seam pairs p [] d in
-          let before = old.inside (get_or pairs i d) (All-contains_itself pairs i d k) in
-          subst (λ (z : Pair × Pair). z.0.key < z.1.key) (λ t. (sym (get_or-append pairs (p ∷ []) d i k) t, sym there t)) (let a = before.1 in let b = first.1.holds.0 in omega arith)
-    ]
+has_value : (o : Option ℕ) → (o ≡ None) ⊎ ((x : ℕ) × (o ≡ Some x))
+has_value None = inl refl
+has_value (Some x) = inr (x, refl)
 
-    pub so_far_more : IsSoFar from (p.key + 1) v w (pairs ++ p ∷ [])
-    so_far_more = record {
-      saw = saw_trans v u w old.saw later;
-      order = (let a = old.order in let b = first.1.holds.0 in omega arith);
-      ascending = ascends;
-      inside = λ q c. elim (Contains-append_cases pairs (p ∷ []) q c) [
-        | inl o ↦ let t = old.inside q o in (t.0, (let a = t.1 in let b = first.1.holds.0 in omega arith))
-        | inr o ↦ subst (λ (z : Pair). (from ≤ z.key) × (z.key < p.key + 1)) (only_one p q o) ((let a = old.order in let b = first.1.holds.0 in omega arith), omega arith)
-      ];
-      stood = rise_more v.seen pairs u.seen first.1.log w.seen p old.stood first.1.after first.1.holds.1 first.1.before;
-      passed = λ key above below. elim (cases_lt key next) [
-        | inl m ↦ either_way key v u w pairs (p ∷ []) later (old.passed key above m)
-        | inr m ↦ elim (cases_lt key p.key) [
-          | inl n ↦ inr (once_from (λ log. value_of key log ≡ None) v u w old.saw record { log = first.1.log; after = first.1.after; before = first.1.before; holds = first.1.holds.2 key m n })
-          | inr n ↦
-              let e : p.key ≡ key = omega arith in
-              inl (p.value, Contains-append_right pairs (p ∷ []) (pair_of key p.value) (0, omega arith, λ t. pair_of (e t) p.value))
-        ]
-      ];
-    }
-
--- what is told of a key alone
-pub told_first : (from x : ℕ) (v w : Known) → ToldOf from (Value x) v w → FirstFrom from (Some (pair_of from x)) v w
-told_first from x v w t = (t.0, record { log = t.1.log; after = t.1.after; before = t.1.before; holds = first_here from x t.1.log t.1.holds })
-
--- and of keys up to another, which have no value
-pub so_far_pass : (from next last : ℕ) (v u w : Known) (pairs : List Pair) → IsSoFar from next v u pairs → ToldOf next (NoneTo last) u w → IsSoFar from (last + 1) v w pairs
-so_far_pass from next last v u w pairs s t = record {
-  saw = saw_trans v u w s.saw t.0.0;
-  order = (let a = s.order in let b = t.1.holds.0 in omega arith);
-  ascending = s.ascending;
-  inside = λ p c. ((s.inside p c).0, (let b = (s.inside p c).1 in let a = t.1.holds.0 in omega arith));
-  stood = rise_to v.seen pairs u.seen w.seen s.stood t.0.0.3;
+-- what is told of the keys from one on and below another
+pub so_far_run : (from next to : ℕ) (v u w : Known) (pairs more : List Pair) → IsSoFar from next v u pairs → Saw u w → next ≤ to → Once (λ log. IsDrained log next to more) u w → IsSoFar from to v w (pairs ++ more)
+so_far_run from next to v u w pairs more old later order once = record {
+  saw = saw_trans v u w old.saw later;
+  order = (let a = old.order in omega (arith, a, order));
+  ascending = ascends_both pairs more old.ascending once.holds.ascending (λ p q c d. let l = (old.inside p c).1 in let m = (once.holds.told q d).0 in omega (arith, l, m));
+  inside = λ p c. elim (Contains-append_cases pairs more p c) [
+    | inl o ↦ let t = old.inside p o in let l = t.1 in (t.0, omega (arith, l, order))
+    | inr o ↦ let t = once.holds.told p o in let a = old.order in let l = t.0 in (omega (arith, a, l), t.1)
+  ];
+  stood = rise_both v.seen pairs more u.seen once.log w.seen old.stood once.after (rise_at once.log more w.seen (λ p c. (once.holds.told p c).2) once.before);
   passed = λ key above below. elim (cases_lt key next) [
-    | inl m ↦ elim (s.passed key above m) [
-      | inl h ↦ inl h
-      | inr l ↦ inr (once_to (λ log. value_of key log ≡ None) v u w l t.0.0)
+    | inl m ↦ either_way key v u w pairs more later (old.passed key above m)
+    | inr m ↦ elim (has_value (value_of key once.log)) [
+      | inl none ↦ inr (once_from (λ log. value_of key log ≡ None) v u w old.saw record { log = once.log; after = once.after; before = once.before; holds = none })
+      | inr some ↦ inl (some.0, Contains-append_right pairs more (pair_of key some.0) (once.holds.all key some.0 m below some.1))
     ]
-    | inr m ↦ inr (once_from (λ log. value_of key log ≡ None) v u w s.saw record { log = t.1.log; after = t.1.after; before = t.1.before; holds = t.1.holds.1 key m (omega arith) })
   ];
 }
 
@@ -177,16 +141,6 @@ scan_full from next to places v w pairs s full below = record {
 
 pub scan_done : (from next to places : ℕ) (v w : Known) (pairs : List Pair) → IsSoFar from next v w pairs → next ≡ to → length pairs ≤ places → IsScan from to places v w pairs
 scan_done from next to places v w pairs s end few = scan_all from next to places v w w pairs s (saw_refl w) few (λ p c. let b = (s.inside p c).1 in omega (arith, b, end)) (λ key above below. s.passed key above (omega (arith, below, end)))
-
--- no key up to the last one has a value
-pub scan_behind : (from next last to places : ℕ) (v u w : Known) (pairs : List Pair) → IsSoFar from next v u pairs → next ≤ last → last ≤ to → ToldOf next (NoneTo to) u w → length pairs ≤ places → IsScan from (last + 1) places v w pairs
-scan_behind from next last to places v u w pairs s order reach told few =
-    let all = so_far_pass from next to v u w pairs s told in
-    scan_all from (to + 1) (last + 1) places v w w pairs all (saw_refl w) few (λ p c. let b = (s.inside p c).1 in omega (arith, b, order)) (λ key above below. all.passed key above (omega (arith, below, reach)))
-
--- a pair that is put into its place
-pub so_far_put : (from next : ℕ) (v u w : Known) (out : List Pair) (count : ℕ) (p : Pair) → count < length out → IsSoFar from next v u (take count out) → FirstFrom next (Some p) u w → IsSoFar from (p.key + 1) v w (take (count + 1) (set out count p))
-so_far_put from next v u w out count p low s first = subst (λ (l : List Pair). IsSoFar from (p.key + 1) v w l) (sym (take_more_set out count p low)) (so_far_more from next v u w (take count out) s p first)
 
 -- what holds of what was seen before holds at that moment
 pub once_here : (P : List Entry → Type 0) (v : Known) → P v.seen → Once P v v
@@ -252,18 +206,11 @@ IsCounted from next n v w = (pairs : List Pair) × IsSoFar from next v w pairs �
 pub counted_none : (from : ℕ) (v : Known) → IsCounted from from 0 v v
 counted_none from v = ([], so_far_none from v, refl)
 
-pub counted_more : (from next n m x : ℕ) (v u w : Known) → IsCounted from next n v u → ToldOf next (Value x) u w → m ≡ min (n + 1) (2 ^ 64 - 1) → IsCounted from (next + 1) m v w
-counted_more from next n m x v u w s t e =
-    let p = pair_of next x in
-    let long : length (s.0 ++ p ∷ []) ≡ length s.0 + 1 = length-append s.0 (p ∷ []) in
+pub counted_run : (from next to n m k : ℕ) (v u w : Known) (more : List Pair) → IsCounted from next n v u → Saw u w → next ≤ to → Once (λ log. IsDrained log next to more) u w → length more ≡ k → m ≡ min (n + k) (2 ^ 64 - 1) → IsCounted from to m v w
+counted_run from next to n m k v u w more s later order once long e =
+    let both : length (s.0 ++ more) ≡ length s.0 + length more = length-append s.0 more in
     let is = s.2 in
-    (s.0 ++ p ∷ [], so_far_more from next v u w s.0 s.1 p (told_first next x u w t), omega (arith, e, is, long))
-
-pub counted_pass : (from next last n : ℕ) (v u w : Known) → IsCounted from next n v u → ToldOf next (NoneTo last) u w → IsCounted from (last + 1) n v w
-counted_pass from next last n v u w s t = (s.0, so_far_pass from next last v u w s.0 s.1 t, s.2)
+    (s.0 ++ more, so_far_run from next to v u w s.0 more s.1 later order once, omega (arith, e, is, both, long))
 
 pub counts_done : (from next to n : ℕ) (v w : Known) → IsCounted from next n v w → next ≡ to → Counts from to n v w
 counts_done from next to n v w s end = (s.0, scan_done from next to (length s.0 + 1) v w s.0 s.1 end (omega arith), s.2)
-
-pub counts_behind : (from next last to n : ℕ) (v u w : Known) → IsCounted from next n v u → next ≤ last → last ≤ to → ToldOf next (NoneTo to) u w → Counts from (last + 1) n v w
-counts_behind from next last to n v u w s order reach t = (s.0, scan_behind from next last to (length s.0 + 1) v u w s.0 s.1 order reach t (omega arith), s.2)

@@ -1,11 +1,13 @@
 -- The next bit that is set.
-use Rattle.std.proofs.Common.{◌≡◌, ◌≢◌, ℕ, ◌+◌, ◌-◌, ◌*◌, ◌/◌, ◌%◌, ◌^◌, ◌<◌, ◌≤◌, sym, ap, ◌∙◌, arith, shr-shr, inl, inr, bit_and, pow_pos, pow_mono, pow-add, List, [], ◌∷◌, get_or, length, ◌⊎◌}
+use Rattle.std.proofs.Common.{◌≡◌, ◌≢◌, ℕ, ◌+◌, ◌-◌, ◌*◌, ◌/◌, ◌%◌, ◌^◌, ◌<◌, ◌≤◌, sym, ap, ◌∙◌, arith, shr-shr, inl, inr, bit_and, pow_pos, pow_mono, pow-add, List, [], ◌∷◌, get_or, set, length, ◌⊎◌}
+use Rattle.std.proofs.lemmas.List.{get_or-set_other}
+use Rattle.std.proofs.lemmas.Grind.{get_or-set_at}
 use Rattle.std.proofs.lemmas.Nat.{leading_length, leading_top, div_below, and_le_r}
 use Rattle.std.proofs.lemmas.Nat.Bits.{bit_at-zero, bit_at-lt, bit_at_above, bit_at_and, bit_at_ones}
 use Rattle.std.specs.Int.Count.{count_leading_zeros, leading_of_zero}
 use Rattle.std.proofs.lemmas.Bool.{cases_lt, cases_eq}
 use Rattle.std.specs.Int.{bit_at}
-use Rattle.optimistic.specs.forms.Wide.{bit_in, IsNext, HasPlace}
+use Rattle.optimistic.specs.forms.Wide.{bit_in, IsNext, HasPlace, HasPlaces}
 use Rattle.optimistic.specs.forms.Bytes.{with_at}
 use Rattle.optimistic.specs.forms.Held.{held, IsNode}
 use Rattle.std.specs.FinMap as map
@@ -196,3 +198,15 @@ module _ (n : ℕ) (key entry : ℕ → ℕ) (mask b : ℕ) (node : IsNode key (
     | inl f ↦ record { place = f.0; taken_there = f.2; byte = f.3 }
     | inr g ↦ let none = get_none key (bit_at mask) entry n b g in absurd (cc (s, none))
   ]
+
+pub places_more : (key : ℕ → ℕ) (mask : ℕ) (masks masks' places : List ℕ) (b p : ℕ) → HasPlaces key (bit_at mask) masks places → ((q : ℕ) → bit_in masks' q ≡ with_at (bit_in masks) (key p) 1 q) → bit_at mask p ≡ 1 → b ≡ key p → b < length places
+    → HasPlaces key (bit_at mask) masks' (set places b p)
+places_more key mask masks masks' places b p old put taken is low q l e = elim (cases_eq q (key p)) [
+  | inl s ↦
+      let at : get_or (set places b p) q 0 ≡ p = get_or-set_at places b q p 0 (s ∙ sym is) low in
+      (ap (bit_at mask) at ∙ taken, ap key at ∙ sym s)
+  | inr d ↦
+      let at : get_or (set places b p) q 0 ≡ get_or places q 0 = get_or-set_other places b q p 0 (λ f. d (f ∙ is)) in
+      let t = old q l (sym (put q ∙ with_other (bit_in masks) (key p) 1 q d) ∙ e) in
+      (ap (bit_at mask) at ∙ t.0, ap key at ∙ t.1)
+]

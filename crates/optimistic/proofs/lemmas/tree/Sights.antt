@@ -50,16 +50,16 @@ module _ (m : Moment) (sound : Sound IsTree m) (node form level from : ℕ) (som
   covers k near = ap (λ (z : ℕ). stands z k) (is ∙ ap (λ (z : ℕ). z * 2 ^ (64 - 8 * level) + 8 * form + level) (sym near)) ∙ where_stands form level k some low deep
 
   -- a key's last node
-  value : (k : ℕ) → IsNear level from k → goes_on (First k) (Second k) k ≡ false → pair_value (First k) (Second k) k ≡ value_of k m.log
-  value k near off =
+  pub value_then : (k : ℕ) → IsNear level from k → goes_on (First k) (Second k) k ≡ false → pair_value (First k) (Second k) k ≡ value_of k m.log
+  value_then k near off =
       let f : first_at m.calm node k ≡ First k = (λ i. first_of (form_is i) (calm_at m.calm node) k (byte_at k (depth_is i))) in
       let s : second_at m.calm node k ≡ Second k = (λ i. second_of (form_is i) (calm_at m.calm node) k (byte_at k (depth_is i))) in
       (λ i. pair_value (sym f i) (sym s i) k) ∙ sound.means.nodes.means node k (covers k near, (λ i. goes_on (f i) (s i) k) ∙ off)
 
   pub holds_then : (next : Next) → IsNext level First Second from next → Holds m.log from next
-  holds_then (Here x) n = sym (value from refl n.0) ∙ n.1
+  holds_then (Here x) n = sym (value_then from refl n.0) ∙ n.1
   holds_then (Down p) n = tt
-  holds_then (After last) n = (n.0, λ k above below. let t = n.1 k above below in sym (value k t.0 t.1.0) ∙ t.1.1)
+  holds_then (After last) n = (n.0, λ k above below. let t = n.1 k above below in sym (value_then k t.0 t.1.0) ∙ t.1.1)
 
 -- where the way goes on
 pub down_place : (form first last from : ℕ) (p : Place) (w : View) → Tells first w → goes_on (put_first form first from) last from ≡ true

@@ -1,17 +1,14 @@
 -- The nodes that a scan passed, and what it learned of the keys after them.
-use Rattle.std.proofs.Common.{◌≡◌, ℕ, zero, suc, ◌+◌, ◌-◌, ◌<◌, ◌⊎◌, List, [], ◌∷◌, length, set, length-set, refl, subst, inl, inr, ◌∙◌, Some}
+use Rattle.std.proofs.Common.{◌≡◌, ℕ, zero, suc, ◌+◌, ◌<◌, ◌⊎◌, List, [], ◌∷◌, set, length-set, subst, inl, inr, ◌∙◌, Some}
 use Rattle.std.specs.Prelude.{slice_get}
 use Rattle.optimistic.specs.declared.tree.ahead.Ahead.{Ahead}
 use Rattle.optimistic.specs.declared.tree.place.Place.{Place}
 use Rattle.optimistic.specs.declared.tree.trail.Trail.{Trail}
-use Rattle.optimistic.specs.declared.drain.nexts.Next.{Next}
-use Rattle.optimistic.specs.declared.drain.nexts.Next.TheVariants.{Here, Down, After}
 use Rattle.optimistic.specs.declared.words.rule.Moment.{Moment}
 use Rattle.optimistic.specs.declared.words.rule.View.{View}
 use Rattle.optimistic.specs.words.Kept.{Since}
 use Rattle.optimistic.specs.tree.Reads.{IsPlace}
-use Rattle.optimistic.specs.tree.Sights.{Holds, Stood}
-use Rattle.optimistic.specs.tree.Trails.{Learns, IsKnown, IsTrail, AreKnown}
+use Rattle.optimistic.specs.tree.Trails.{IsKnown, IsTrail, AreKnown}
 use Rattle.optimistic.proofs.lemmas.tree.Setting.{place_since}
 
 -- what a list has at a place after it was set at one
@@ -52,9 +49,3 @@ ahead_put places turn p m t k = record {
     | inr s ↦ t.known i q s
   ];
 }
-
--- what a node told, which isn't the next one on the way
-pub learned : (from : ℕ) (next : Next) (v w : View) → Stood (λ log. Holds log from next) v w → ((p : Place) → next ≡ Down p → ⊥) → Learns from next v w
-learned from (Here x) v w st other = st
-learned from (Down p) v w st other = absurd (other p refl)
-learned from (After last) v w st other = st

@@ -1,4 +1,4 @@
-use Rattle.std.proofs.Common.{◌+◌, ◌-◌, arith}
+use Rattle.std.proofs.Common.{◌+◌, arith}
 use Rattle.optimistic.proofs.lemmas.forms.Scans.{back_none}
 use Rattle.optimistic.proofs.forms.gaps.last_set.Goals as goal
 

@@ -1,55 +1,48 @@
-use Rattle.std.proofs.Common.{◌≡◌, ℕ, ◌+◌, ◌-◌, ◌^◌, min, subst, arith}
-use Rattle.optimistic.specs.declared.tree.trail.Told.{Told}
+use Rattle.std.proofs.Common.{◌≡◌, ℕ, ◌+◌, ◌-◌, ◌^◌, ◌≤◌, min, Option, IfSome, take, ap, ◌∙◌, subst, rules, arith}
+use Rattle.std.proofs.lemmas.List.{length-take-le}
 use Rattle.optimistic.specs.face.Calls.{Known}
-use Rattle.optimistic.specs.face.Scans.{ToldOf}
+use Rattle.optimistic.specs.tree.Runs.{behind}
 use Rattle.optimistic.specs.tree.Trails.{IsTrail}
-use Rattle.optimistic.proofs.lemmas.face.Scanning.{counted_none, counted_more, counted_pass, counts_done, counts_behind}
+use Rattle.optimistic.proofs.lemmas.face.Scanning.{IsCounted, counted_none, counted_run, counts_done}
 use Rattle.optimistic.proofs.face.worker.Worker.count.Goals as goal
 
-pub loop-count-init : goal.loop-count-init
-loop-count-init g c = let test = c.if-start-last.false in (counted_none c.args.start c.args.self.now, omega (arith, test), subst (λ (z : Known). IsTrail c.trail-trail.result z.moment) c.self.view_is c.trail-trail.ensures)
+pub loop-next-init : goal.loop-next-init
+loop-next-init g c = let test = c.if-start-last.false in (counted_none c.args.start c.args.self.now, omega (arith, test), subst (λ (z : Known). IsTrail c.trail-trail.result z.moment) c.self.view_is c.trail-trail.ensures, search rules)
 
-pub returns-then-from-last-clause-count : goal.returns-then-from-last-clause-count
-returns-then-from-last-clause-count g c =
-    let from : ℕ = c.loop-count.from in
-    let v = c.args.self.now in
-    let u = c.loop-count.self in
-    let w = c.told_of.new.self in
-    let at = c.if-from-last.true in
+pub loop-next-preserved : goal.loop-next-preserved
+loop-next-preserved g c =
+    let i = c.loop-next.invariant in
+    let last : ℕ = c.args.last in
+    let r = c.run-run.result in
+    let told = c.run-run.ensures.run in
+    let later = told.later in
+    let few = told.few in
+    let same = c.run-run.ensures.same in
+    let size = i.3 in
+    let is : behind last r.next ≡ c.in-Some.next = ap (λ (o : Option ℕ). behind last o) c.in-Some.is in
     let m : ℕ = c.saturating_add-count.result in
-    let one : m ≡ min (c.loop-count.count + 1) (2 ^ 64 - 1) = c.saturating_add-count.ensures in
-    let told = subst (λ (t : Told). ToldOf from t u w) c.in-Value.is c.told_of.ensures.told in
-    counts_done c.args.start (from + 1) (c.args.last + 1) m v w (counted_more c.args.start from c.loop-count.count m c.in-Value.field-0 v u w c.loop-count.invariant.0 told one) (omega (arith, at))
+    let sum : m ≡ min (c.loop-next.count + r.count) (2 ^ 64 - 1) = c.saturating_add-count.ensures in
+    let long = length-take-le r.count c.run-run.new.pairs (omega (arith, few, same, size)) in (
+      subst (λ (z : ℕ). IsCounted c.args.start z m c.args.self.now c.run-run.new.self) is
+          (counted_run c.args.start c.loop-next.from (behind last r.next) c.loop-next.count m r.count c.args.self.now c.loop-next.self c.run-run.new.self (take r.count c.run-run.new.pairs) i.0 told.looked.0 (omega (arith, later)) told.once long sum),
+      subst (λ (o : Option ℕ). IfSome o (λ k. k ≤ last)) c.in-Some.is told.inside,
+      c.run-run.ensures.trail,
+      same ∙ size,
+    )
 
-pub loop-count-preserved-in-Value : goal.loop-count-preserved-in-Value
-loop-count-preserved-in-Value g c =
-    let from : ℕ = c.loop-count.from in
-    let v = c.args.self.now in
-    let u = c.loop-count.self in
-    let w = c.told_of.new.self in
-    let below = c.loop-count.invariant.1 in
-    let apart = c.if-from-last.false in
+pub returns-in-None-clause-count : goal.returns-in-None-clause-count
+returns-in-None-clause-count g c =
+    let i = c.loop-next.invariant in
+    let last : ℕ = c.args.last in
+    let r = c.run-run.result in
+    let told = c.run-run.ensures.run in
+    let later = told.later in
+    let few = told.few in
+    let same = c.run-run.ensures.same in
+    let size = i.3 in
+    let is : behind last r.next ≡ last + 1 = ap (λ (o : Option ℕ). behind last o) c.in-None.is in
     let m : ℕ = c.saturating_add-count.result in
-    let one : m ≡ min (c.loop-count.count + 1) (2 ^ 64 - 1) = c.saturating_add-count.ensures in
-    let told = subst (λ (t : Told). ToldOf from t u w) c.in-Value.is c.told_of.ensures.told in
-    (counted_more c.args.start from c.loop-count.count m c.in-Value.field-0 v u w c.loop-count.invariant.0 told one, omega (arith, below, apart), c.told_of.ensures.trail)
-
-pub returns-then-to-last-clause-count : goal.returns-then-to-last-clause-count
-returns-then-to-last-clause-count g c =
-    let from : ℕ = c.loop-count.from in
-    let v = c.args.self.now in
-    let u = c.loop-count.self in
-    let w = c.told_of.new.self in
-    let past = c.if-to-last.true in
-    let told = subst (λ (t : Told). ToldOf from t u w) c.in-NoneTo.is c.told_of.ensures.told in
-    counts_behind c.args.start from c.args.last c.in-NoneTo.to c.loop-count.count v u w c.loop-count.invariant.0 c.loop-count.invariant.1 (omega (arith, past)) told
-
-pub loop-count-preserved : goal.loop-count-preserved
-loop-count-preserved g c =
-    let from : ℕ = c.loop-count.from in
-    let v = c.args.self.now in
-    let u = c.loop-count.self in
-    let w = c.told_of.new.self in
-    let short = c.if-to-last.false in
-    let told = subst (λ (t : Told). ToldOf from t u w) c.in-NoneTo.is c.told_of.ensures.told in
-    (counted_pass c.args.start from c.in-NoneTo.to c.loop-count.count v u w c.loop-count.invariant.0 told, omega (arith, short), c.told_of.ensures.trail)
+    let sum : m ≡ min (c.loop-next.count + r.count) (2 ^ 64 - 1) = c.saturating_add-count.ensures in
+    let long = length-take-le r.count c.run-run.new.pairs (omega (arith, few, same, size)) in
+    counts_done c.args.start (behind last r.next) (last + 1) m c.args.self.now c.run-run.new.self
+    (counted_run c.args.start c.loop-next.from (behind last r.next) c.loop-next.count m r.count c.args.self.now c.loop-next.self c.run-run.new.self (take r.count c.run-run.new.pairs) i.0 told.looked.0 (omega (arith, later)) told.once long sum) is

@@ -1,15 +1,19 @@
-use Rattle.std.proofs.Common.{◌≡◌, ℕ, ◌+◌, ◌<◌, ◌≤◌, List, length, set, take, drop, length-set, ap, sym, ◌∙◌, subst, refl, arith}
-use Rattle.std.proofs.lemmas.List.{length-take-le, drop-set-lt, drop-drop}
-use Rattle.optimistic.specs.declared.tree.trail.Told.{Told}
+use Rattle.std.proofs.Common.{◌≡◌, ℕ, ◌+◌, ◌++◌, ◌≤◌, List, Option, IfSome, length, take, drop, ap, sym, ◌∙◌, subst, refl, arith, rules}
+use Rattle.std.proofs.lemmas.List.{length-take-le, drop-drop}
+use Rattle.optimistic.specs.face.Scans.{keys_of}
 use Rattle.optimistic.specs.face.Calls.{Known}
-use Rattle.optimistic.specs.face.Scans.{ToldOf}
+use Rattle.optimistic.specs.tree.Runs.{behind}
 use Rattle.optimistic.specs.tree.Trails.{IsTrail}
-use Rattle.optimistic.proofs.lemmas.face.Keyed.{keyed_none, keyed_put, keyed_pass, keys_none, keys_full, keys_done, keys_behind}
+use Rattle.optimistic.proofs.lemmas.face.Keyed.{IsKeyed, keyed_run, keys_none, keyed_none, keys_full, keys_done}
 use Rattle.optimistic.proofs.face.worker.Worker.keys.Goals as goal
 
 -- as many as are taken, and no more than there are places
 few : (n : ℕ) (out old : List ℕ) → n ≤ length out → length out ≡ length old → length (take n out) ≤ length old
 few n out old low same = let e = length-take-le n out low in omega (arith, e, low, same)
+
+-- what is behind the places that are written stays
+past : (n k : ℕ) (new out old : List ℕ) → drop (n + k) new ≡ drop (n + k) out → drop n out ≡ drop n old → drop (n + k) new ≡ drop (n + k) old
+past n k new out old a b = a ∙ sym (drop-drop k n out) ∙ ap (λ (l : List ℕ). drop k l) b ∙ drop-drop k n old
 
 pub returns-then-start-last-clause-keys : goal.returns-then-start-last-clause-keys
 returns-then-start-last-clause-keys g c = let test = c.if-start-last.true in keys_none c.args.start (c.args.last + 1) (length c.args.out.now) c.args.self.now (omega (arith, test))
@@ -23,62 +27,67 @@ loop-count-init g c =
       refl {a = length c.args.out.now},
       refl {a = drop 0 c.args.out.now},
       subst (λ (z : Known). IsTrail c.trail-trail.result z.moment) c.self.view_is c.trail-trail.ensures,
+      search rules,
     )
 
-pub returns-then-from-last-clause-keys : goal.returns-then-from-last-clause-keys
-returns-then-from-last-clause-keys g c =
-    let i = c.loop-count.invariant in
-    let n : ℕ = c.loop-count.count in
-    let out = c.loop-count.out in
-    let from : ℕ = c.loop-count.from in
-    let low : n < length out = omega arith in
-    let long : length (set out n from) ≡ length out = length-set out n from in
-    let room : n + 1 ≤ length (set out n from) = omega (arith, low, long) in
-    let at = c.if-from-last.true in
-    let told = subst (λ (t : Told). ToldOf from t c.loop-count.self c.told_of.new.self) c.in-Value.is c.told_of.ensures.told in
-    keys_done c.args.start (from + 1) (c.args.last + 1) (length c.args.out.now) c.args.self.now c.told_of.new.self (take (n + 1) (set out n from))
-    (keyed_put c.args.start from c.in-Value.field-0 c.args.self.now c.loop-count.self c.told_of.new.self out n low i.0 told) (omega (arith, at)) (few (n + 1) (set out n from) c.args.out.now room (long ∙ i.3))
-
-pub loop-count-preserved-in-Value : goal.loop-count-preserved-in-Value
-loop-count-preserved-in-Value g c =
+pub loop-count-preserved : goal.loop-count-preserved
+loop-count-preserved g c =
     let i = c.loop-count.invariant in
     let n : ℕ = c.loop-count.count in
     let out = c.loop-count.out in
     let old = c.args.out.now in
     let from : ℕ = c.loop-count.from in
-    let low : n < length out = omega arith in
-    let long : length (set out n from) ≡ length out = length-set out n from in
-    let below = i.1 in
-    let apart = c.if-from-last.false in
-    let told = subst (λ (t : Told). ToldOf from t c.loop-count.self c.told_of.new.self) c.in-Value.is c.told_of.ensures.told in (
-      keyed_put c.args.start from c.in-Value.field-0 c.args.self.now c.loop-count.self c.told_of.new.self out n low i.0 told,
-      omega (arith, below, apart),
-      omega (arith, low, long),
-      long ∙ i.3,
-      drop-set-lt (n + 1) out n from (omega arith) ∙ sym (drop-drop 1 n out) ∙ ap (λ (l : List ℕ). drop 1 l) i.4 ∙ drop-drop 1 n old,
-      c.told_of.ensures.trail,
+    let last : ℕ = c.args.last in
+    let r = c.run-run.result in
+    let told = c.run-run.ensures.run in
+    let next : ℕ = c.in-Some.next in
+    let v = c.args.self.now in
+    let u = c.loop-count.self in
+    let w = c.run-run.new.self in
+    let more = take r.count c.run-run.new.pairs in
+    let later = told.later in
+    let is : behind last r.next ≡ next = ap (λ (o : Option ℕ). behind last o) c.in-Some.is in
+    let all : IsKeyed c.args.start (behind last r.next) v w (take n out ++ keys_of more) = keyed_run c.args.start from (behind last r.next) v u w (take n out) more i.0 told.looked.0 (omega (arith, later)) told.once in
+    let inside : next ≤ last = subst (λ (o : Option ℕ). IfSome o (λ k. k ≤ last)) c.in-Some.is told.inside in
+    let few = told.few in
+    let room = c.fewer-places.ensures.0 in
+    let low = i.2 in
+    let same = c.put_keys.ensures.same in (
+      subst (λ (z : ℕ × List ℕ). IsKeyed c.args.start z.0 v w z.1) (λ t. (is t, sym c.put_keys.ensures.keys t)) all,
+      inside,
+      omega (arith, few, room, low, same),
+      same ∙ i.3,
+      past n r.count c.put_keys.new.out out old c.put_keys.ensures.past i.4,
+      c.run-run.ensures.trail,
+      c.run-run.ensures.same ∙ i.6,
     )
 
-pub returns-then-to-last-clause-keys : goal.returns-then-to-last-clause-keys
-returns-then-to-last-clause-keys g c =
+pub returns-in-None-clause-keys : goal.returns-in-None-clause-keys
+returns-in-None-clause-keys g c =
     let i = c.loop-count.invariant in
-    let past = c.if-to-last.true in
-    let told = subst (λ (t : Told). ToldOf c.loop-count.from t c.loop-count.self c.told_of.new.self) c.in-NoneTo.is c.told_of.ensures.told in
-    keys_behind c.args.start c.loop-count.from c.args.last c.in-NoneTo.to (length c.args.out.now) c.args.self.now c.loop-count.self c.told_of.new.self (take c.loop-count.count c.loop-count.out) i.0 i.1 (omega (arith, past)) told
-    (few c.loop-count.count c.loop-count.out c.args.out.now i.2 i.3)
+    let n : ℕ = c.loop-count.count in
+    let out = c.loop-count.out in
+    let from : ℕ = c.loop-count.from in
+    let last : ℕ = c.args.last in
+    let r = c.run-run.result in
+    let told = c.run-run.ensures.run in
+    let v = c.args.self.now in
+    let u = c.loop-count.self in
+    let w = c.run-run.new.self in
+    let more = take r.count c.run-run.new.pairs in
+    let later = told.later in
+    let is : behind last r.next ≡ last + 1 = ap (λ (o : Option ℕ). behind last o) c.in-None.is in
+    let all : IsKeyed c.args.start (behind last r.next) v w (take n out ++ keys_of more) = keyed_run c.args.start from (behind last r.next) v u w (take n out) more i.0 told.looked.0 (omega (arith, later)) told.once in
+    let few' = told.few in
+    let room = c.fewer-places.ensures.0 in
+    let low = i.2 in
+    let same = c.put_keys.ensures.same in
+    keys_done c.args.start (behind last r.next) (last + 1) (length c.args.out.now) v w (take (n + r.count) c.put_keys.new.out)
+    (subst (λ (l : List ℕ). IsKeyed c.args.start (behind last r.next) v w l) (sym c.put_keys.ensures.keys) all) is
+    (few (n + r.count) c.put_keys.new.out c.args.out.now (omega (arith, few', room, low, same)) (same ∙ i.3))
 
-pub loop-count-preserved : goal.loop-count-preserved
-loop-count-preserved g c =
-    let i = c.loop-count.invariant in
-    let short = c.if-to-last.false in
-    let told = subst (λ (t : Told). ToldOf c.loop-count.from t c.loop-count.self c.told_of.new.self) c.in-NoneTo.is c.told_of.ensures.told in (
-      keyed_pass c.args.start c.loop-count.from c.in-NoneTo.to c.args.self.now c.loop-count.self c.told_of.new.self (take c.loop-count.count c.loop-count.out) i.0 told,
-      omega (arith, short),
-      i.2,
-      i.3,
-      i.4,
-      c.told_of.ensures.trail,
-    )
+pub returns-in-None-clause-past : goal.returns-in-None-clause-past
+returns-in-None-clause-past g c = past c.loop-count.count c.run-run.result.count c.put_keys.new.out c.loop-count.out c.args.out.now c.put_keys.ensures.past c.loop-count.invariant.4
 
 pub returns-clause-keys : goal.returns-clause-keys
 returns-clause-keys g c =

@@ -6,7 +6,7 @@ use Rattle.optimistic.proofs.face.worker.Worker.keys.Given as goal
 abbrev pub invariant-loop-count : goal.invariant-loop-count
 invariant-loop-count g l =
     IsKeyed l.fn.start l.from l.initial.self l.self (take l.count l.out) × (l.from ≤ l.fn.last) × (l.count ≤ length l.out) × (length l.out ≡ length l.initial.out) × (drop l.count l.out ≡ drop l.count l.initial.out)
-    × IsTrail l.trail l.self.moment
+    × IsTrail l.trail l.self.moment × (length l.pairs ≡ 64)
 
 abbrev pub decreases-loop-count : goal.decreases-loop-count
 decreases-loop-count g l = l.fn.last - l.from

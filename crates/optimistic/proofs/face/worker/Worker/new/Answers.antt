@@ -1,4 +1,4 @@
-use Rattle.std.proofs.Common.{ap, ◌∙◌, List}
+use Rattle.std.proofs.Common.{rules, ap, ◌∙◌, List}
 use Rattle.optimistic.specs.declared.words.rule.Tenure.{Tenure}
 use Rattle.optimistic.specs.declared.words.rule.View.{View}
 use Rattle.optimistic.specs.words.Kept.{has}
@@ -10,4 +10,5 @@ invariant_of-result c = (
   c.note-names.ensures.of,
   λ n. ap (λ (v : View). has v.mine n) c.note-names.ensures.same ∙ ap (λ (l : List Tenure). has l n) c.hand-hand.ensures.fresh.1,
   has_names c.args.tree.now.nodes.table.shared.table_id c.hand-hand.result.me.0.seen c.in_ok-free.free c.note-names.result c.note-names.ensures.note c.hand-hand.ensures.of.2 (c.in_ok-free.ensures _),
+  search rules,
 )

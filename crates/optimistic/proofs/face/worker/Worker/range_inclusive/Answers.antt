@@ -1,74 +1,76 @@
-use Rattle.std.proofs.Common.{◌≡◌, ℕ, ◌+◌, ◌<◌, ◌≤◌, List, length, set, take, drop, length-set, ap, sym, ◌∙◌, subst, arith}
-use Rattle.std.proofs.lemmas.List.{length-take-le, drop-set-lt, drop-drop}
+use Rattle.std.proofs.Common.{◌≡◌, ℕ, ◌+◌, ◌++◌, ◌≤◌, List, Option, IfSome, length, take, drop, ap, sym, ◌∙◌, subst, arith}
+use Rattle.std.proofs.lemmas.List.{length-take-le, drop-drop}
 use Rattle.optimistic.specs.declared.drain.nexts.Pair.{Pair}
-use Rattle.optimistic.specs.declared.tree.trail.Told.{Told}
-use Rattle.optimistic.specs.face.Scans.{ToldOf}
-use Rattle.optimistic.specs.tree.Drained.{pair_of}
-use Rattle.optimistic.proofs.lemmas.face.Scanning.{scan_full, scan_done, scan_behind, so_far_pass, so_far_put, told_first}
+use Rattle.optimistic.specs.tree.Runs.{behind}
+use Rattle.optimistic.proofs.lemmas.face.Scanning.{IsSoFar, so_far_run, scan_full, scan_done}
 use Rattle.optimistic.proofs.face.worker.Worker.range_inclusive.Goals as goal
 
 -- as many as are taken, and no more than there are places
 few : (n : ℕ) (out old : List Pair) → n ≤ length out → length out ≡ length old → length (take n out) ≤ length old
 few n out old low same = let e = length-take-le n out low in omega (arith, e, low, same)
 
-pub returns-then-from-last-clause-scan : goal.returns-then-from-last-clause-scan
-returns-then-from-last-clause-scan g c =
-    let i = c.loop-count.invariant in
-    let n : ℕ = c.loop-count.count in
-    let out = c.loop-count.out in
-    let from : ℕ = c.loop-count.from in
-    let p = pair_of from c.in-Value.value in
-    let low : n < length out = omega arith in
-    let long : length (set out n p) ≡ length out = length-set out n p in
-    let room : n + 1 ≤ length (set out n p) = omega (arith, low, long) in
-    let at = c.if-from-last.true in
-    let told = subst (λ (t : Told). ToldOf from t c.loop-count.self c.told_of.new.self) c.in-Value.is c.told_of.ensures.told in
-    let first = told_first from c.in-Value.value c.loop-count.self c.told_of.new.self told in
-    scan_done c.args.start (from + 1) (c.args.last + 1) (length c.args.out.now) c.args.self.now c.told_of.new.self (take (n + 1) (set out n p))
-    (so_far_put c.args.start from c.args.self.now c.loop-count.self c.told_of.new.self out n p low i.0 first) (omega (arith, at)) (few (n + 1) (set out n p) c.args.out.now room (long ∙ i.3))
+-- what is behind the places that are written stays
+past : (n k : ℕ) (new out old : List Pair) → drop (n + k) new ≡ drop (n + k) out → drop n out ≡ drop n old → drop (n + k) new ≡ drop (n + k) old
+past n k new out old a b = a ∙ sym (drop-drop k n out) ∙ ap (λ (l : List Pair). drop k l) b ∙ drop-drop k n old
 
-pub loop-count-preserved-in-Value : goal.loop-count-preserved-in-Value
-loop-count-preserved-in-Value g c =
+pub loop-count-preserved : goal.loop-count-preserved
+loop-count-preserved g c =
     let i = c.loop-count.invariant in
     let n : ℕ = c.loop-count.count in
     let out = c.loop-count.out in
     let old = c.args.out.now in
     let from : ℕ = c.loop-count.from in
-    let p = pair_of from c.in-Value.value in
-    let low : n < length out = omega arith in
-    let long : length (set out n p) ≡ length out = length-set out n p in
-    let below = i.1 in
-    let apart = c.if-from-last.false in
-    let told = subst (λ (t : Told). ToldOf from t c.loop-count.self c.told_of.new.self) c.in-Value.is c.told_of.ensures.told in
-    let first = told_first from c.in-Value.value c.loop-count.self c.told_of.new.self told in (
-      so_far_put c.args.start from c.args.self.now c.loop-count.self c.told_of.new.self out n p low i.0 first,
-      omega (arith, below, apart),
-      omega (arith, low, long),
-      long ∙ i.3,
-      drop-set-lt (n + 1) out n p (omega arith) ∙ sym (drop-drop 1 n out) ∙ ap (λ (l : List Pair). drop 1 l) i.4 ∙ drop-drop 1 n old,
-      c.told_of.ensures.trail,
+    let last : ℕ = c.args.last in
+    let r = c.run-run.result in
+    let told = c.run-run.ensures.run in
+    let next : ℕ = c.in-Some.next in
+    let v = c.args.self.now in
+    let u = c.loop-count.self in
+    let w = c.run-run.new.self in
+    let more = take r.count c.run-run.new.pairs in
+    let later = told.later in
+    let is : behind last r.next ≡ next = ap (λ (o : Option ℕ). behind last o) c.in-Some.is in
+    let all : IsSoFar c.args.start (behind last r.next) v w (take n out ++ more) = so_far_run c.args.start from (behind last r.next) v u w (take n out) more i.0 told.looked.0 (omega (arith, later)) told.once in
+    let inside : next ≤ last = subst (λ (o : Option ℕ). IfSome o (λ k. k ≤ last)) c.in-Some.is told.inside in
+    let few = told.few in
+    let room = c.fewer-places.ensures.0 in
+    let low = i.2 in
+    let same = c.put_all.ensures.same in (
+      subst (λ (z : ℕ × List Pair). IsSoFar c.args.start z.0 v w z.1) (λ t. (is t, sym c.put_all.ensures.pairs t)) all,
+      inside,
+      omega (arith, few, room, low, same),
+      same ∙ i.3,
+      past n r.count c.put_all.new.out out old c.put_all.ensures.past i.4,
+      c.run-run.ensures.trail,
+      c.run-run.ensures.same ∙ i.6,
     )
 
-pub returns-then-to-last-clause-scan : goal.returns-then-to-last-clause-scan
-returns-then-to-last-clause-scan g c =
+pub returns-in-None-clause-scan : goal.returns-in-None-clause-scan
+returns-in-None-clause-scan g c =
     let i = c.loop-count.invariant in
-    let past = c.if-to-last.true in
-    let told = subst (λ (t : Told). ToldOf c.loop-count.from t c.loop-count.self c.told_of.new.self) c.in-NoneTo.is c.told_of.ensures.told in
-    scan_behind c.args.start c.loop-count.from c.args.last c.in-NoneTo.to (length c.args.out.now) c.args.self.now c.loop-count.self c.told_of.new.self (take c.loop-count.count c.loop-count.out) i.0 i.1 (omega (arith, past)) told
-    (few c.loop-count.count c.loop-count.out c.args.out.now i.2 i.3)
+    let n : ℕ = c.loop-count.count in
+    let out = c.loop-count.out in
+    let from : ℕ = c.loop-count.from in
+    let last : ℕ = c.args.last in
+    let r = c.run-run.result in
+    let told = c.run-run.ensures.run in
+    let v = c.args.self.now in
+    let u = c.loop-count.self in
+    let w = c.run-run.new.self in
+    let more = take r.count c.run-run.new.pairs in
+    let later = told.later in
+    let is : behind last r.next ≡ last + 1 = ap (λ (o : Option ℕ). behind last o) c.in-None.is in
+    let all : IsSoFar c.args.start (behind last r.next) v w (take n out ++ more) = so_far_run c.args.start from (behind last r.next) v u w (take n out) more i.0 told.looked.0 (omega (arith, later)) told.once in
+    let few' = told.few in
+    let room = c.fewer-places.ensures.0 in
+    let low = i.2 in
+    let same = c.put_all.ensures.same in
+    scan_done c.args.start (behind last r.next) (last + 1) (length c.args.out.now) v w (take (n + r.count) c.put_all.new.out)
+    (subst (λ (l : List Pair). IsSoFar c.args.start (behind last r.next) v w l) (sym c.put_all.ensures.pairs) all) is
+    (few (n + r.count) c.put_all.new.out c.args.out.now (omega (arith, few', room, low, same)) (same ∙ i.3))
 
-pub loop-count-preserved : goal.loop-count-preserved
-loop-count-preserved g c =
-    let i = c.loop-count.invariant in
-    let short = c.if-to-last.false in
-    let told = subst (λ (t : Told). ToldOf c.loop-count.from t c.loop-count.self c.told_of.new.self) c.in-NoneTo.is c.told_of.ensures.told in (
-      so_far_pass c.args.start c.loop-count.from c.in-NoneTo.to c.args.self.now c.loop-count.self c.told_of.new.self (take c.loop-count.count c.loop-count.out) i.0 told,
-      omega (arith, short),
-      i.2,
-      i.3,
-      i.4,
-      c.told_of.ensures.trail,
-    )
+pub returns-in-None-clause-past : goal.returns-in-None-clause-past
+returns-in-None-clause-past g c = past c.loop-count.count c.run-run.result.count c.put_all.new.out c.loop-count.out c.args.out.now c.put_all.ensures.past c.loop-count.invariant.4
 
 pub returns-clause-scan : goal.returns-clause-scan
 returns-clause-scan g c =

@@ -1,4 +1,4 @@
-use Rattle.std.proofs.Common.{◌≡◌, sym, ◌∙◌, arith}
+use Rattle.std.proofs.Common.{◌≡◌, sym, ◌∙◌, arith, ◌%◌, get_or}
 use native.Mathlib.Nat.{mod-eq_of_lt}
 use Rattle.optimistic.specs.Layout.{room}
 use Rattle.optimistic.proofs.lemmas.forms.Gaps.{has_two}
@@ -7,6 +7,7 @@ use Rattle.optimistic.proofs.lemmas.MoveLemmas.{below_inside, sixteen_small}
 use Rattle.optimistic.proofs.lemmas.tree.Reading.{looks_trans, steady_until}
 use Rattle.optimistic.proofs.lemmas.tree.Sights.{steady_in}
 use Rattle.optimistic.proofs.lemmas.words.Moments.{since_trans, since_refl}
+use Rattle.optimistic.proofs.lemmas.forms.Scans.{place_within}
 use Rattle.optimistic.proofs.tree.get.Tree.bytes_of_sixteen.Goals as goal
 
 pub read-a-requires-clause-inside : goal.read-a-requires-clause-inside
@@ -27,5 +28,17 @@ returns-clause-only c f ag is =
     let r1 : f 3 ≡ c.read-b.result = steady_in c.args.at.node c.args.at.form 3 c.read-b.result c.args.hand.now.me.0 c.read-a.new.hand.me.0 c.read-b.new.hand.me.0 c.read-mask.new.hand.me.0 c.read-a.ensures.looks c.read-b.ensures.steady c.read-mask.ensures.looks.since f ag in
     let r2 : f 4 ≡ c.read-mask.result = steady_in c.args.at.node c.args.at.form 4 c.read-mask.result c.args.hand.now.me.0 c.read-b.new.hand.me.0 c.read-mask.new.hand.me.0 c.read-mask.new.hand.me.0 (looks_trans _ _ _ c.read-a.ensures.looks c.read-b.ensures.looks) c.read-mask.ensures.steady (since_refl c.read-mask.new.hand.me.0.seen) f ag in
     let small = sixteen_small c.args.at.form f c.read-mask.result c.requires.form is (sym r2) in
-    c.bytes_among.ensures c.args.at.form f (λ (e : room c.args.at.form ≡ 256). absurd (omega (arith, e, c.requires.form))) (omega (arith, c.requires.form))
+    c.places_among.ensures.only c.args.at.form f (λ (e : room c.args.at.form ≡ 256). absurd (omega (arith, e, c.requires.form))) (omega (arith, c.requires.form))
     (has_two f c.read-a.result c.read-b.result r0 r1) (mask_sixteen c.args.at.form f c.requires.form ∙ r2 ∙ sym (mod-eq_of_lt (omega (arith, small)))) is
+
+pub returns-clause-places : goal.returns-clause-places
+returns-clause-places c f ag is =
+    let r0 : f 2 ≡ c.read-a.result = steady_until c.args.at.node c.args.at.form 2 c.read-a.result c.args.hand.now.me.0 c.read-a.new.hand.me.0 c.read-mask.new.hand.me.0 c.read-a.ensures.steady (since_trans c.read-a.new.hand.me.0.seen c.read-b.new.hand.me.0.seen c.read-mask.new.hand.me.0.seen c.read-b.ensures.looks.since c.read-mask.ensures.looks.since) f ag in
+    let r1 : f 3 ≡ c.read-b.result = steady_in c.args.at.node c.args.at.form 3 c.read-b.result c.args.hand.now.me.0 c.read-a.new.hand.me.0 c.read-b.new.hand.me.0 c.read-mask.new.hand.me.0 c.read-a.ensures.looks c.read-b.ensures.steady c.read-mask.ensures.looks.since f ag in
+    let r2 : f 4 ≡ c.read-mask.result = steady_in c.args.at.node c.args.at.form 4 c.read-mask.result c.args.hand.now.me.0 c.read-b.new.hand.me.0 c.read-mask.new.hand.me.0 c.read-mask.new.hand.me.0 (looks_trans _ _ _ c.read-a.ensures.looks c.read-b.ensures.looks) c.read-mask.ensures.steady (since_refl c.read-mask.new.hand.me.0.seen) f ag in
+    let small = sixteen_small c.args.at.form f c.read-mask.result c.requires.form is (sym r2) in
+    c.places_among.ensures.places c.args.at.form f (λ (e : room c.args.at.form ≡ 256). absurd (omega (arith, e, c.requires.form)))
+    (has_two f c.read-a.result c.read-b.result r0 r1) (mask_sixteen c.args.at.form f c.requires.form ∙ r2 ∙ sym (mod-eq_of_lt (omega (arith, small))))
+
+pub returns-clause-within : goal.returns-clause-within
+returns-clause-within c b l e = let low = place_within (c.read-mask.result % 65536) 16 (get_or c.places_among.new.places b 0) (omega arith) (c.places_among.ensures.within b l e) in let form = c.requires.form in omega (arith, low, form)

@@ -1,5 +1,6 @@
-use Rattle.std.proofs.Common.{ℕ, ◌+◌, [], List, subst, sym, ◌∙◌, inl, inr, arith}
+use Rattle.std.proofs.Common.{ℕ, [], List, Option, subst, sym, ◌∙◌, take}
 use Rattle.optimistic.specs.declared.tree.whole.Mark.{Mark}
+use Rattle.optimistic.specs.tree.Runs.{behind}
 use Rattle.optimistic.specs.tree.Wholes.{IsCollected}
 use Rattle.optimistic.proofs.lemmas.tree.Reading.{looks_trans}
 use Rattle.optimistic.proofs.lemmas.tree.Wholes.{collected_none}
@@ -19,39 +20,19 @@ loop-reached-init c =
       e.trail,
     )
 
-pub returns-then-reached-out-clause-collected : goal.returns-then-reached-out-clause-collected
-returns-then-reached-out-clause-collected c =
-    let i = c.loop-reached.invariant in
-    let low = c.loop-reached-test.true in
-    let full = c.if-reached-out.true in
-    let few = i.3 in
-    let same = i.4 in
-    (omega (arith, few, same), (c.loop-reached.reached.last + 1, i.5, inr (omega (arith, low), omega (arith, full, same))))
-
-pub returns-clause-collected : goal.returns-clause-collected
-returns-clause-collected c =
-    let i = c.loop-reached.invariant in
-    let most = i.2 in
-    let over = c.loop-reached-test.false in
-    let few = i.3 in
-    let same = i.4 in
-    (omega (arith, few, same), (c.loop-reached.reached.last + 1, i.5, inl (omega (arith, most, over))))
+pub returns-in_err-reached-2-clause-looks : goal.returns-in_err-reached-2-clause-looks
+returns-in_err-reached-2-clause-looks c = looks_trans _ _ _ c.loop-reached.invariant.1 c.collect_one-in-loop-reached.ensures.looks
 
 pub loop-reached-preserved : goal.loop-reached-preserved
 loop-reached-preserved c =
     let i = c.loop-reached.invariant in
-    let e = c.in_ok-reached-2.ensures in (
+    let e = c.in_ok-reached-2.ensures in
+    let v = c.loop-reached.hand.me.0 in (
       e.of,
       looks_trans _ _ _ i.1 e.looks,
       e.order.1,
       e.order.2,
       e.same ∙ i.4,
-      e.collected c.args.start i.5,
+      e.collected c.args.start (subst (λ (o : Option ℕ). IsCollected c.loop-reached.marks.items c.args.start (behind c.args.last o) (take c.loop-reached.reached.count c.loop-reached.out) v) c.in-Some.is i.5),
       e.trail,
     )
-
-pub returns-in_err-reached-2-clause-looks : goal.returns-in_err-reached-2-clause-looks
-returns-in_err-reached-2-clause-looks c = looks_trans _ _ _ c.loop-reached.invariant.1 c.collect_one-in-loop-reached.ensures.looks
-
-pub returns-in_err-reached-2-clause-same : goal.returns-in_err-reached-2-clause-same
-returns-in_err-reached-2-clause-same c = c.collect_one-in-loop-reached.ensures.same ∙ c.loop-reached.invariant.4

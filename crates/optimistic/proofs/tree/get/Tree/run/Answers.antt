@@ -1,0 +1,7 @@
+use Rattle.std.proofs.Common.{take}
+use Rattle.optimistic.proofs.lemmas.tree.Runs.{told_from}
+use Rattle.optimistic.proofs.tree.get.Tree.run.Goals as goal
+
+pub returns-in-Some-run_soon-clause-told : goal.returns-in-Some-run_soon-clause-told
+returns-in-Some-run_soon-clause-told g c =
+    told_from c.in-Some-run_soon.run' c.args.from c.args.last c.args.places (take c.in-Some-run_soon.run'.count c.run_soon.new.out) c.args.hand.now.me.0 c.loop.hand.me.0 c.run_soon.new.hand.me.0 c.loop.invariant.3 c.in-Some-run_soon.ensures.told
