@@ -6,3 +6,5 @@ pub use Rattle.optimistic.proofs.lemmas.face.Logs.{call_later}
 pub use Rattle.optimistic.proofs.lemmas.face.Logs.{call_wrote}
 -- a value that a key has some call gave it
 pub use Rattle.optimistic.proofs.lemmas.face.Logs.{call_value}
+-- no write is refused for want of room at a moment at which 520 words are left
+pub use Rattle.optimistic.proofs.lemmas.face.Rooms.{full_wants}

@@ -1,6 +1,7 @@
 pub mod Calls
 pub mod Computes
 pub mod Many
+pub mod Openings
 pub mod Refusals
 pub mod Scans
 pub mod Walks

@@ -14,7 +14,7 @@ mod words;
 
 pub use drain::{Locked, Pair, Pairs, Undrained};
 pub use face::{
-    Congee, LEAST_WORDS, MOST_WORDS, Refusal, Retired, Seen, U64Congee, Uninserted, Unopened, Walk,
-    WordWorker, Worker,
+    Congee, Filled, LEAST_WORDS, MOST_WORDS, Refusal, Retired, Seen, U64Congee, Unfilled,
+    Uninserted, Unopened, Unreopened, Walk, WordWorker, Worker,
 };
 pub use tree::Unscanned;

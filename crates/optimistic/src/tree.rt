@@ -37,5 +37,6 @@ pub use fresh::Free;
 pub use get::{ATTEMPTS, TOP, Tree};
 pub use reshape::Want;
 pub use set::Set;
+pub use trade::{Trade, share_of};
 pub use whole::Unscanned;
 pub use write::{Condition, Write};

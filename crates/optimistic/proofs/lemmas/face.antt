@@ -3,4 +3,5 @@ pub mod Keyed
 pub mod Knowing
 pub mod Logs
 pub mod Many
+pub mod Rooms
 pub mod Scanning

@@ -49,6 +49,21 @@ impl Pairs {
         }
     }
 
+    /// The key from which on the pairs are still to come.
+    pub(crate) fn from(&self) -> Option<u64>
+        ensures { result ≡ self.now.from }
+    {
+        self.from
+    }
+
+    /// Begins again at a key.
+    pub(crate) fn go_back(&mut self, from: Option<u64>)
+        ensures words { self.new.words ≡ self.old.words }
+        ensures from { self.new.from ≡ from }
+    {
+        self.from = from;
+    }
+
     /// The pair with the least key that wasn't told before, or `None` if each was told.
     ///
     /// What is told is what a log of decided calls makes of the keys. It stays the same log. An error tells that some node

@@ -15,14 +15,14 @@ pub struct Retired {
 
 impl Model for Retired {
     ghost use Rattle.optimistic.specs.face.Calls.{Known};
-    ghost use Rattle.optimistic.specs.face.Workers.{known};
+    ghost use Rattle.optimistic.specs.face.Workers.{known, HasNone};
     ghost use Rattle.optimistic.specs.words.Told.{IsOf};
 
     ghost Value = { Known };
 
     ghost view = { λ r. known r.hand.table_id r.hand.me.0 };
 
-    ghost invariant = { λ r. IsOf r.hand.table_id r.hand };
+    ghost invariant = { λ r. IsOf r.hand.table_id r.hand × HasNone r.hand.me.0 };
 }
 
 impl U64Congee {

@@ -3,6 +3,7 @@ ghost use Rattle.std.specs.Prelude.{◌≡◌, [], IfOk, MatchResult};
 ghost use Rattle.optimistic.specs.words.Kept.{calls_by};
 ghost use Rattle.optimistic.specs.face.Refusals.{IsSize, IsUnopened};
 
+use crate::face::close::Retired;
 use crate::face::pool::Pool;
 use crate::face::refusal::Unopened;
 use crate::face::worker::Worker;
@@ -17,7 +18,9 @@ pub const MOST_WORDS: usize = (1 << 48) - 1;
 
 /// An ordered map from numbers to numbers that threads share. No reader takes a lock, and a writer locks single nodes.
 ///
-/// Its memory is reserved at first: so many words of eight bytes. Each thread asks for a worker, and calls through it.
+/// Its memory is reserved at first: so many words of eight bytes, all of which are written as it opens. It doesn't grow: a write that
+/// wants a new node where none is to be had is refused. Words of nodes that were freed serve all workers, but nodes of the same form
+/// alone, so keys of another kind may find less room than those before them. Each thread asks for a worker, and calls through it.
 #[derive(Drop)]
 pub struct U64Congee {
     pub(crate) tree: Tree,
@@ -46,5 +49,13 @@ impl U64Congee {
         ensures new { IfOk result (λ w. (w.made ≡ []) × (calls_by w.by w.seen ≡ [])) }
     {
         Worker::new(alloc, &self.tree, &self.pool)
+    }
+
+    /// A worker that was given back goes on: it knows what it knew.
+    pub fn resume(&self, alloc: Global, last: Retired) -> Result<Worker<'_>, AllocError>
+        requires { last.index ≡ self.now.tree.nodes.table.shared.table_id }
+        ensures { IfOk result (λ w. w ≡ last) }
+    {
+        Worker::resume(alloc, &self.tree, &self.pool, last)
     }
 }

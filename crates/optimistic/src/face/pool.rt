@@ -2,9 +2,9 @@
 ghost use Rattle.std.specs.Prelude.{◌≡◌, IfOk};
 ghost use Rattle.optimistic.specs.face.Workers.{HasNames};
 
-use crate::tree::{Free, Tree};
-use crate::words::Hand;
 use crate::desk::{Desk, Fact};
+use crate::tree::{Free, Trade, Tree};
+use crate::words::Hand;
 use std::alloc::{AllocError, Global};
 use std::marker::Model;
 use std::mem::replace;
@@ -33,6 +33,8 @@ pub struct Pool {
     desk: Desk<Shelf, Hand, Naming>,
     /// Of which forms there are names. It is a hint.
     stock: AtomicU64,
+    /// How many words the nodes have that are named. It is a hint.
+    words: AtomicU64,
 }
 
 impl Model for Pool {
@@ -43,19 +45,12 @@ impl Model for Pool {
     ghost view = { λ p. p.desk.table.shared.key.table_id };
 }
 
-/// What a trade leaves to others, and whether it took names.
-#[derive(Drop)]
-struct Traded {
-    shelf: Shelf,
-    took: bool,
-}
-
 /// Trades names with a shelf's.
-fn trade(tree: &Tree, free: &mut Free, names: &mut Hand, shelf: Shelf, leaves: bool) -> Traded
+fn trade_with(tree: &Tree, free: &mut Free, names: &mut Hand, shelf: Shelf, trade: Trade) -> Shelf
     requires mine { HasNames tree.now.nodes.table.shared.table_id free.old names.old }
     requires shelf { HasNames tree.now.nodes.table.shared.table_id shelf.free shelf.names }
     ensures names { HasNames tree.now.nodes.table.shared.table_id free.new names.new }
-    ensures shelf { HasNames tree.now.nodes.table.shared.table_id result.shelf.free result.shelf.names }
+    ensures shelf { HasNames tree.now.nodes.table.shared.table_id result.free result.names }
 {
     let mut hand = tree.hand();
     let now = tree.nodes.note(&mut hand);
@@ -66,15 +61,12 @@ fn trade(tree: &Tree, free: &mut Free, names: &mut Hand, shelf: Shelf, leaves: b
     } = shelf;
     tree.nodes.heed(&mut hand, mine);
     tree.nodes.heed(&mut hand, seen);
-    let took = free.trade(&mut others, leaves);
+    free.trade(&mut others, trade);
     *names = tree.nodes.note(&mut hand);
     let seen = tree.nodes.note(&mut hand);
-    Traded {
-        shelf: Shelf {
-            free: others,
-            names: seen,
-        },
-        took,
+    Shelf {
+        free: others,
+        names: seen,
     }
 }
 
@@ -83,13 +75,14 @@ impl Pool {
     pub fn new(alloc: Global, tree: &Tree) -> Result<Pool, AllocError>
         ensures { IfOk result (λ p. p ≡ tree.now.nodes.table.shared.table_id) }
     {
-        let free = Free::new(alloc)?;
+        let free = Free::new(alloc, 0)?;
         let mut hand = tree.hand();
         let names = tree.nodes.note(&mut hand);
         let desk = Desk::new(alloc, Shelf { free, names }, &hand)?;
         Ok(Pool {
             desk,
             stock: AtomicU64::new(0),
+            words: AtomicU64::new(0),
         })
     }
 
@@ -98,19 +91,25 @@ impl Pool {
         self.stock.load(SeqCst)
     }
 
-    /// Trades names of free nodes, or takes all in. Tells whether it gave any, or they are out with another.
-    pub fn trade(&self, tree: &Tree, free: &mut Free, names: &mut Hand, leaves: bool) -> bool
+    /// How many words the nodes may have that are named.
+    pub fn words(&self) -> u64 {
+        self.words.load(SeqCst)
+    }
+
+    /// A trade of names of free nodes, or nothing where another worker trades. Tells whether it was made.
+    pub fn trade(&self, tree: &Tree, free: &mut Free, names: &mut Hand, trade: Trade) -> bool
         requires same { self.now ≡ tree.now.nodes.table.shared.table_id }
         requires names { HasNames tree.now.nodes.table.shared.table_id free.old names.old }
         ensures { HasNames tree.now.nodes.table.shared.table_id free.new names.new }
     {
         let mut caller = self.desk.caller();
         let Some(shelf) = self.desk.take(&mut caller) else {
-            return true;
+            return false;
         };
-        let Traded { shelf, took } = trade(tree, free, names, shelf, leaves);
+        let shelf = trade_with(tree, free, names, shelf, trade);
         self.stock.store(shelf.free.stocked(), SeqCst);
+        self.words.store(shelf.free.words(), SeqCst);
         self.desk.give(&mut caller, shelf);
-        took
+        true
     }
 }

@@ -1,5 +1,6 @@
 //! Why a write is not made, and why an index is not opened.
 
+use crate::drain::Undrained;
 use std::alloc::AllocError;
 
 /// Why a write is not made. Nothing is changed then, and no node is left locked.
@@ -37,5 +38,56 @@ impl From<AllocError> for Unopened {
 
     fn from(error: AllocError) -> Self {
         Unopened::Memory(error)
+    }
+}
+
+/// Why an index is not opened with pairs.
+#[derive(Clone, Copy, Debug, PartialEq, Eq, Drop)]
+pub enum Unfilled {
+    /// There is no such index.
+    Unopened(Unopened),
+    /// The pair at a place was refused.
+    Uninserted(Uninserted),
+}
+
+impl From<Unopened> for Unfilled {
+    ghost use Rattle.std.specs.Prelude.{◌≡◌};
+    ghost use Rattle.optimistic.specs.declared.face.refusal.Unfilled.TheVariants.{Unopened};
+
+    ghost from_gives = { λ e u. u ≡ Unopened e };
+
+    fn from(error: Unopened) -> Self {
+        Unfilled::Unopened(error)
+    }
+}
+
+impl From<Uninserted> for Unfilled {
+    ghost use Rattle.std.specs.Prelude.{◌≡◌};
+    ghost use Rattle.optimistic.specs.declared.face.refusal.Unfilled.TheVariants.{Uninserted};
+
+    ghost from_gives = { λ e u. u ≡ Uninserted e };
+
+    fn from(error: Uninserted) -> Self {
+        Unfilled::Uninserted(error)
+    }
+}
+
+/// Why a closed index's pairs aren't put into a new one.
+#[derive(Clone, Copy, Debug, Drop)]
+pub enum Unreopened {
+    /// Not all pairs were told.
+    Undrained(Undrained),
+    /// There was no room for them.
+    Unfilled(Unfilled),
+}
+
+impl From<Undrained> for Unreopened {
+    ghost use Rattle.std.specs.Prelude.{◌≡◌};
+    ghost use Rattle.optimistic.specs.declared.face.refusal.Unreopened.TheVariants.{Undrained};
+
+    ghost from_gives = { λ e u. u ≡ Undrained e };
+
+    fn from(error: Undrained) -> Self {
+        Unreopened::Undrained(error)
     }
 }

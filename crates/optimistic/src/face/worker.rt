@@ -1,5 +1,5 @@
 //! A thread's calls.
-ghost use Rattle.std.specs.Prelude.{◌≡◌, [], IfOk, IfSome};
+ghost use Rattle.std.specs.Prelude.{◌≡◌, ◌+◌, ◌≤◌, [], IfOk, IfSome};
 ghost use Rattle.optimistic.specs.words.Kept.{calls_by, StartsWith};
 ghost use Rattle.optimistic.specs.words.Room.{used};
 ghost use Rattle.optimistic.specs.face.Calls.{Saw, Looked, Found};
@@ -10,13 +10,18 @@ use crate::face::pool::Pool;
 use crate::face::refusal::Refusal;
 use crate::face::seen::Seen;
 use crate::face::writes::{Written, came_of, outcome_of};
-use crate::tree::{ATTEMPTS, Free, Set, Tree, Want, Write};
+use crate::tree::{ATTEMPTS, Free, Set, Trade, Tree, Want, Write, share_of};
 use crate::words::Hand;
 use std::alloc::{AllocError, Global};
 use std::hint::spin_loop;
 use std::marker::Model;
 use std::mem::replace;
 use std::sync::Wait;
+use std::thread::yield_now;
+
+/// How often a worker that goes tries to leave its names: a trade of another worker takes some hundred nanoseconds, but its thread may
+/// have to wait for a processor meanwhile.
+const LEAVES: u32 = 10_000;
 
 /// A thread's hand at an index, with the names of some nodes that were freed. Those that it has beyond a few, and all when it is
 /// given back, it leaves to the index's other workers.
@@ -56,8 +61,31 @@ impl<'t> Worker<'t> {
         ensures index { IfOk result (λ w. w.index ≡ tree.now.nodes.table.shared.table_id) }
         ensures new { IfOk result (λ w. (w.made ≡ []) × (calls_by w.by w.seen ≡ [])) }
     {
-        let free = Free::new(alloc)?;
+        let free = Free::new(alloc, share_of(tree.words()))?;
         let mut hand = tree.hand();
+        let names = tree.nodes.note(&mut hand);
+        Ok(Worker {
+            tree,
+            hand,
+            free,
+            names,
+            pool,
+        })
+    }
+
+    /// A worker that knows what one knew that was given back.
+    pub(crate) fn resume(
+        alloc: Global,
+        tree: &'t Tree,
+        pool: &'t Pool,
+        last: Retired,
+    ) -> Result<Self, AllocError>
+        requires index { last.index ≡ tree.now.nodes.table.shared.table_id }
+        requires pool { pool.now ≡ tree.now.nodes.table.shared.table_id }
+        ensures { IfOk result (λ w. w ≡ last) }
+    {
+        let free = Free::new(alloc, share_of(tree.words()))?;
+        let Retired { mut hand } = last;
         let names = tree.nodes.note(&mut hand);
         Ok(Worker {
             tree,
@@ -84,8 +112,20 @@ impl<'t> Worker<'t> {
         self.tree.get(rt, &mut self.hand, key)
     }
 
+    /// How many words are left for new nodes: those past all nodes, and those of freed nodes whose names the worker has, or which no
+    /// worker keeps. A freed node is used again for a node of its form alone.
+    pub fn words_free(&mut self) -> u64
+        ensures looked { Looked self.old self.new }
+        ensures free { self.new.index.words ≤ used self.new.moment + result }
+    {
+        let used = self.tree.used(&mut self.hand);
+        let words = self.tree.words() as u64;
+        let freed = self.pool.words().saturating_add(self.free.words());
+        words.saturating_sub(used).saturating_add(freed)
+    }
+
     /// How many of the index's words are in use, at the last moment that the worker has then seen. Words past them are left for
-    /// new nodes, and so are those of nodes that workers freed.
+    /// new nodes, and so are those of nodes that were freed.
     pub fn words_used(&mut self) -> u64
         ensures { Looked self.old self.new × (result ≡ used self.new.moment) }
     {
@@ -114,24 +154,30 @@ impl<'t> Worker<'t> {
         self.tree.nodes.heed(&mut self.hand, note);
     }
 
-    /// Trades names of free nodes with the other workers, or leaves all to them. Tells whether there are more than before, or
-    /// another worker was trading.
-    fn trade(&mut self, leaves: bool) -> bool
+    /// A trade of names of free nodes with the other workers, or nothing where another worker trades. Tells whether it was made.
+    fn trade(&mut self, trade: Trade) -> bool
         ensures { self.new ≡ self.old }
     {
         self.pool
-            .trade(self.tree, &mut self.free, &mut self.names, leaves)
+            .trade(self.tree, &mut self.free, &mut self.names, trade)
     }
 
-    /// Leaves all names to the other workers, unless one of them trades all the while.
+    /// Leaves all names to the other workers, unless others trade all the while.
     fn leave(&mut self)
         ensures { self.new ≡ self.old }
     {
-        for _ in 0..ATTEMPTS {
-            if !self.trade(true) {
+        if self.free.stocked() == 0 {
+            return;
+        }
+        for attempt in 0..LEAVES {
+            if self.trade(Trade::Leave) {
                 return;
             }
-            spin_loop();
+            if attempt < ATTEMPTS {
+                spin_loop();
+            } else {
+                yield_now();
+            }
         }
     }
 
@@ -152,29 +198,33 @@ impl<'t> Worker<'t> {
         Retired { hand }
     }
 
-    /// The same once more, after a trade where that gave names.
+    /// The same once more, with a name that the other workers left, if one was wanted and they left any. Where another worker trades,
+    /// it is to be tried again.
     fn reshape_again(&mut self, write: Write, want: Want) -> Result<Written, Refusal>
         requires { calls_by self.old.by self.old.seen ≡ self.old.made }
         ensures { IsWritten write self.old self.new result }
     {
-        if self.trade(false) {
+        let wanted = self.free.wanted();
+        if wanted == 0 || !self.trade(Trade::Take(wanted)) {
             return Err(Refusal::Again);
         }
         self.reshape(write, want)
     }
 
-    /// Makes a write as it changes which nodes there are.
+    /// Makes a write as it changes which nodes there are. Names beyond those that it keeps go to the other workers.
     fn try_reshape(&mut self, write: Write, want: Want) -> Result<Written, Refusal>
         ensures { IsWritten write self.old self.new result }
     {
-        let others = self.pool.stocked() & !self.free.stocked();
-        if others != 0 || self.free.is_laden() {
-            self.trade(false);
-        }
-        match self.reshape(write, want) {
+        self.free.know(self.pool.stocked());
+        let outcome = match self.reshape(write, want) {
             Err(Refusal::Full) => self.reshape_again(write, want),
+            Err(Refusal::Again) => self.reshape_again(write, want),
             done => done,
+        };
+        if self.free.is_laden() {
+            self.trade(Trade::Give);
         }
+        outcome
     }
 
     /// Makes a write as it changes which nodes there are, with words at the end and names of its own.
@@ -203,14 +253,16 @@ impl<'t> Worker<'t> {
         }
     }
 
-    /// Takes a key away with or from its last node. Where that comes to nothing, from the node as it stands.
+    /// Takes a key away with or from its last node. Where there is no room for a lesser node, from the node as it stands.
     fn try_less(&mut self, write: Write) -> Result<Written, Refusal>
         ensures written { IsWritten write self.old self.new result }
         ensures room { WantsRoom write result }
     {
         match self.try_reshape(write, Want::Less) {
             Ok(written) => Ok(written),
-            Err(_) => came_of(self.tree.try_set(&mut self.hand, write)),
+            Err(Refusal::Full) => came_of(self.tree.try_set(&mut self.hand, write)),
+            Err(Refusal::Again) => Err(Refusal::Again),
+            Err(Refusal::Exhausted) => Err(Refusal::Exhausted),
         }
     }
 

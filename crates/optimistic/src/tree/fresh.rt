@@ -16,6 +16,12 @@ use std::alloc::{AllocError, Global};
 #[derive(Drop)]
 pub struct Free {
     pub(crate) lists: Vec<Vec<usize>>,
+    /// How many words of nodes of one form are kept back in a trade.
+    pub(crate) share: usize,
+    /// Of which forms others have names, bit i for form i: of these no words are carved before the others were asked.
+    others: u64,
+    /// Of which form a node was wanted last where there was no name.
+    wanted: u64,
 }
 
 /// A node that the hand has, which covers no key, and its version.
@@ -26,15 +32,45 @@ pub struct Fresh {
 }
 
 impl Free {
-    /// No names.
-    pub fn new(alloc: Global) -> Result<Free, AllocError>
+    /// No names, of which a trade keeps back those of so many words of a form.
+    pub fn new(alloc: Global, share: usize) -> Result<Free, AllocError>
         ensures { IfOk result (λ f. (v : View) → IsFreeOf f v) }
     {
         let mut lists = Vec::with_capacity(alloc, 9)?;
         for _ in 0..9usize {
             lists.push(Vec::new(alloc))?;
         }
-        Ok(Free { lists })
+        Ok(Free {
+            lists,
+            share,
+            others: 0,
+            wanted: 0,
+        })
+    }
+
+    /// Takes in of which forms others have names, bit i for form i. Nothing is wanted yet.
+    pub fn know(&mut self, others: u64)
+        ensures { self.new.lists ≡ self.old.lists }
+    {
+        self.others = others;
+        self.wanted = 0;
+    }
+
+    /// The forms that were wanted, bit i for form i. The others are asked, so that from now on words may be carved.
+    pub fn wanted(&mut self) -> u64
+        ensures { self.new.lists ≡ self.old.lists }
+    {
+        self.others = 0;
+        self.wanted
+    }
+
+    /// Notes that a node of a form is wanted of which there is no name. Tells whether others have one.
+    fn lack(&mut self, form: u64) -> bool
+        requires { form < 9 }
+        ensures { self.new.lists ≡ self.old.lists }
+    {
+        self.wanted = 1 << form;
+        self.others & self.wanted != 0
     }
 
     /// Keeps the name of a node of this form. Where there is no memory for it, the node is lost.
@@ -137,6 +173,23 @@ impl Tree {
         }
     }
 
+    /// Takes a node of this form of the words at the end, unless others have a name of one.
+    fn fresh_at_end(&self, hand: &mut Hand, free: &mut Free, form: u64) -> Result<Fresh, Uncarved>
+        requires of { IsOf self.now.nodes.table.shared.table_id hand.old }
+        requires form { (0 < form) × (form < 9) }
+        requires names { IsFreeOf free.old (view hand.old) }
+        ensures of { IsOf self.now.nodes.table.shared.table_id hand.new }
+        ensures names { IsFreeOf free.new (view hand.new) }
+        ensures fresh { MatchResult result (λ r. IsMade r form (view hand.old) (view hand.new)) (λ _. Looks IsTree (view hand.old) (view hand.new)) }
+        ensures cause { IfErr result (λ e. IsUncarved self.now.nodes.table.shared.table_id.words form e (view hand.new).seen) }
+    {
+        if free.lack(form) {
+            self.nodes.used(hand);
+            return Err(Uncarved::Again);
+        }
+        self.carve_fresh(hand, form)
+    }
+
     /// Takes a node of this form: the last one that was freed, if it is free, or else words at the end.
     pub fn fresh(&self, hand: &mut Hand, free: &mut Free, form: u64) -> Result<Fresh, Uncarved>
         requires of { IsOf self.now.nodes.table.shared.table_id hand.old }
@@ -149,7 +202,7 @@ impl Tree {
     {
         match free.pop(form) {
             Some(node) => self.fresh_or(hand, free, node, form),
-            None => self.carve_fresh(hand, form),
+            None => self.fresh_at_end(hand, free, form),
         }
     }
 }

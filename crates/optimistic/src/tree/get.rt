@@ -29,7 +29,8 @@ pub struct Tree {
     pub(crate) nodes: Nodes<Levels>,
 }
 
-/// How often a call is tried before its thread lets others run.
+/// How often a call is tried before its thread lets others run: a write of another thread is long done by then, unless that thread waits
+/// for a processor.
 pub const ATTEMPTS: u32 = 64;
 
 /// The root.

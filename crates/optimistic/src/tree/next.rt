@@ -25,7 +25,8 @@ use std::hint::spin_loop;
 use std::sync::Wait;
 use std::thread::yield_now;
 
-/// How many ways down the next pair may take: three for each of eight levels, and some to spare.
+/// How many ways down the next pair may take: one for each level up, and two for each level down, since no node but the root is empty;
+/// and some to spare.
 pub const WAYS: u32 = 32;
 
 /// What a node told at a version, which holds while it has that version.

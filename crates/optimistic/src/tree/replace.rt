@@ -25,6 +25,7 @@ use crate::tree::get::Tree;
 use crate::tree::locked::{Both, Locked};
 use crate::tree::place::{Child, Place};
 use crate::tree::set::Set;
+use crate::tree::sizes::is_enough;
 use crate::tree::write::{Write, allows};
 use crate::words::{Entry, Hand, Note, Uncarved};
 
@@ -231,6 +232,28 @@ impl Tree {
         self.settle(hand, nodes, before)
     }
 
+    /// The same, unless that leaves the new node with fewer than two entries.
+    fn replace_counted(&self, hand: &mut Hand, nodes: Exchange) -> Set
+        requires of { IsOf self.now.nodes.table.shared.table_id hand.old }
+        requires ready { IsReady nodes (view hand.old) }
+        ensures of { IsOf self.now.nodes.table.shared.table_id hand.new }
+        ensures since { Since (view hand.old).seen (view hand.new).seen }
+        ensures set { IsSet nodes.write.key nodes.write.value result (view hand.old) (view hand.new) }
+        ensures minds { Minds nodes.write result }
+        ensures lets_go { LetsThreeGo nodes (view hand.old) (view hand.new) }
+    {
+        if nodes.write.value.is_some() {
+            return self.replace_with(hand, nodes);
+        }
+        let entries = self.entries(hand, nodes.old.at);
+        let enough = is_enough(entries);
+        if !enough {
+            self.give_back(hand, nodes);
+            return Set::Again;
+        }
+        self.replace_with(hand, nodes)
+    }
+
     /// The same, and the name of the node is kept that is free then: of the old one, or of the new one.
     fn replace_by(&self, hand: &mut Hand, free: &mut Free, nodes: Exchange) -> Set
         requires of { IsOf self.now.nodes.table.shared.table_id hand.old }
@@ -243,7 +266,7 @@ impl Tree {
         ensures minds { Minds nodes.write result }
         ensures lets_go { LetsThreeGo nodes (view hand.old) (view hand.new) }
     {
-        let set = self.replace_with(hand, nodes);
+        let set = self.replace_counted(hand, nodes);
         give_one(free, nodes.old.at, nodes.new.at, set);
         set
     }

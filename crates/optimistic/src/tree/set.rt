@@ -14,8 +14,9 @@ use crate::tree::get::Tree;
 use crate::tree::lock::Locking;
 use crate::tree::names::{goes_on, pair_value};
 use crate::tree::place::Place;
+use crate::tree::sizes::is_enough;
 use crate::tree::write::{Write, allows};
-use crate::words::{Entry, Hand, Note};
+use crate::words::{Entry, Hand, Note, ROOT};
 
 /// What came of a write.
 #[derive(Clone, Copy, Drop)]
@@ -148,6 +149,29 @@ impl Tree {
         self.set_there(hand, at, version, write)
     }
 
+    /// The same, unless that leaves a node but the root with fewer than two entries.
+    fn set_counted(&self, hand: &mut Hand, at: Place, version: u64, write: Write) -> Set
+        requires of { IsOf self.now.nodes.table.shared.table_id hand.old }
+        requires at { IsPlace at (view hand.old) }
+        requires version { version + 1 < 2 ^ 64 }
+        requires drafted { IsDrafted at.node version (view hand.old) }
+        ensures of { IsOf self.now.nodes.table.shared.table_id hand.new }
+        ensures set { IsSet write.key write.value result (view hand.old) (view hand.new) }
+        ensures minds { Minds write result }
+        ensures lets_go { LetsGo at.node (view hand.old) (view hand.new) }
+    {
+        if write.value.is_some() || at.node == ROOT {
+            return self.set_locked(hand, at, version, write);
+        }
+        let entries = self.entries(hand, at);
+        let enough = is_enough(entries);
+        if !enough {
+            self.nodes.release(hand, at.node, at.form, version);
+            return Set::Again;
+        }
+        self.set_locked(hand, at, version, write)
+    }
+
     /// Writes a key at a node, if that is the key's last one and has room.
     pub fn set_at(&self, hand: &mut Hand, at: Place, write: Write) -> Set
         requires of { IsOf self.now.nodes.table.shared.table_id hand.old }
@@ -158,14 +182,14 @@ impl Tree {
         ensures no_more { HasNoMore (view hand.old) (view hand.new) }
     {
         match self.try_lock(hand, at) {
-            Locking::Had(version) => self.set_locked(hand, at, version, write),
+            Locking::Had(version) => self.set_counted(hand, at, version, write),
             Locking::Busy => Set::Again,
             Locking::Exhausted => Set::Exhausted,
         }
     }
 
-    /// Writes a key, if it is to be written, no writer comes between, and its last node has room. The key had what is answered
-    /// right before the write. A node stays where its last child is taken away.
+    /// Writes a key, if it is to be written, no writer comes between, and its last node has room; a removal, if it leaves the
+    /// node with two entries at least. The key had what is answered right before the write.
     pub fn try_set(&self, hand: &mut Hand, write: Write) -> Set
         requires of { IsOf self.now.nodes.table.shared.table_id hand.old }
         ensures of { IsOf self.now.nodes.table.shared.table_id hand.new }

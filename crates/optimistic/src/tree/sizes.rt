@@ -1,5 +1,5 @@
 //! The form that a node takes as it fills or empties.
-ghost use Rattle.std.specs.Prelude.{IfSome};
+ghost use Rattle.std.specs.Prelude.{◌<◌, ◌≤◌, IfSome, MatchBool};
 ghost use Rattle.optimistic.specs.words.Told.{view, IsOf, Looks};
 ghost use Rattle.optimistic.specs.tree.Reads.{IsPlace};
 ghost use Rattle.optimistic.specs.tree.Sizes.{IsLike, IsFit};
@@ -76,11 +76,21 @@ fn least(form: u64) -> u64 {
     }
 }
 
+/// The fewest entries of a node that isn't the root, between two writes. With fewer it would be passed for nothing.
+const FEWEST: u64 = 2;
+
+/// Whether a node of so many entries keeps the fewest as one is taken out.
+pub fn is_enough(entries: u64) -> bool
+    ensures { MatchBool result (3 ≤ entries) (entries < 3) }
+{
+    entries > FEWEST
+}
+
 /// What becomes of a node of a form that has so many entries, as one is taken out.
 pub fn after_removal(form: u64, entries: u64) -> Fit
     ensures { IsFit form result }
 {
-    if entries == 2 {
+    if !is_enough(entries) {
         return Fit::Lifts;
     }
     if entries > least(form) {

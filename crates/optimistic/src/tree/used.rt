@@ -8,6 +8,13 @@ use crate::tree::get::Tree;
 use crate::words::Hand;
 
 impl Tree {
+    /// How many words there are.
+    pub fn words(&self) -> usize
+        ensures { result ≡ self.now.nodes.table.shared.table_id.words }
+    {
+        self.nodes.count()
+    }
+
     /// How many words are in use, after all that the hand has then seen.
     pub fn used(&self, hand: &mut Hand) -> u64
         requires of { IsOf self.now.nodes.table.shared.table_id hand.old }

@@ -82,6 +82,13 @@ impl<P: Shape> Nodes<P> {
         Ok(Nodes { table, count })
     }
 
+    /// How many words there are.
+    pub fn count(&self) -> usize
+        ensures { result ≡ self.now.table.shared.table_id.words }
+    {
+        self.count
+    }
+
     /// A hand that has no node.
     pub fn hand(&self) -> Hand
         ensures of { IsOf self.now.table.shared.table_id result }

@@ -1,5 +1,7 @@
 -- What a hand knows of a node that said that it covers no key, and that it took at the version under which it said so.
 use Rattle.std.proofs.Common.{◌≡◌, ℕ, ◌+◌, ◌%◌, ◌<◌, ◌≤◌, ◌^◌, Result, Ok, Err, MatchResult, true, List, ◌∷◌, slice_index_or, sym, ap, ◌∙◌, subst, arith}
+use Rattle.std.specs.Prelude.{Vec, length}
+use Rattle.std.specs.declared.alloc.Global.{Global}
 use Rattle.optimistic.specs.Layout.{width}
 use Rattle.optimistic.specs.declared.tree.fresh.Free.{Free}
 use Rattle.optimistic.specs.declared.tree.fresh.Fresh.{Fresh}
@@ -7,7 +9,7 @@ use Rattle.optimistic.specs.declared.words.rule.Tenure.{Tenure}
 use Rattle.optimistic.specs.declared.words.rule.View.{View}
 use Rattle.optimistic.specs.words.Kept.{word_at, version_at, size, calm_at, has, Since}
 use Rattle.optimistic.specs.words.Told.{HasForm, Looks, Locks, tenure}
-use Rattle.optimistic.specs.tree.Fresh.{IsFreeOf, IsMade}
+use Rattle.optimistic.specs.tree.Fresh.{AreOf, IsFreeOf, IsMade}
 use Rattle.optimistic.specs.tree.Trees.{IsTree}
 use Rattle.optimistic.proofs.lemmas.words.Moments.{version_word, width_some, width_more, inside_since, since_trans, held_trans, held_version, form_since}
 use Rattle.optimistic.proofs.lemmas.words.Chains.{looks_keeps, locks_keeps, locks_drafts, later_keeps}
@@ -17,6 +19,13 @@ use Rattle.optimistic.proofs.lemmas.tree.Reading.{looks_trans}
 -- the names of free nodes are so at each later view
 pub free_since : (free : Free) (v w : View) → IsFreeOf free v → Since v.seen w.seen → IsFreeOf free w
 free_since free v w t s = record { forms = t.forms; names = λ form list some low k d l. form_since (slice_index_or (slice_index_or free.lists.items form list).items k d) form v w (width_some form some low) (t.names form list some low k d l) s }
+
+-- the same of the same lists
+pub free_same : (f g : Free) (v : View) → g.lists ≡ f.lists → IsFreeOf f v → IsFreeOf g v
+free_same f g v same t = record {
+  forms = subst (λ (l : Vec (Vec ℕ Global) Global). length l.items ≡ 9) (sym same) t.forms;
+  names = λ form list some low. subst (λ (l : Vec (Vec ℕ Global) Global). AreOf form (slice_index_or l.items form list).items v) (sym same) (t.names form list some low);
+}
 
 -- a node has the version that it had before, at the look between, where it was taken at that version
 still_version : (n form ver : ℕ) (v a u w : View) → HasForm n form v → 0 < width form → Looks IsTree v a → ver ≡ word_at a.seen.words n 0 → Looks IsTree a u → Locks IsTree n ver u w → version_at u.seen.words n ≡ ver

@@ -1,5 +1,5 @@
 use Rattle.std.specs.Prelude.{◌≡◌}
 use Rattle.optimistic.proofs.face.worker.Worker.leave.Given as goal
 
-abbrev pub invariant-loop : goal.invariant-loop
-invariant-loop l = l.self ≡ l.initial.self
+abbrev pub invariant-loop-attempt : goal.invariant-loop-attempt
+invariant-loop-attempt l = l.self ≡ l.initial.self

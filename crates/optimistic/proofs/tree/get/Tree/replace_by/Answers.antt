@@ -15,6 +15,6 @@ pub returns-clause-names : goal.returns-clause-names
 returns-clause-names c =
     let e = c.args.nodes in
     let v = c.args.hand.now.me.0 in
-    let w = c.replace_with-set.new.hand.me.0 in
-    let s = c.replace_with-set.ensures.since in
+    let w = c.replace_counted-set.new.hand.me.0 in
+    let s = c.replace_counted-set.ensures.since in
     c.give_one.ensures w (place_since e.old.at v w s c.requires.ready.old.held.place).at (place_since e.new.at v w s c.requires.ready.new.held.place).at (free_since c.args.free.now v w c.requires.names s)
