@@ -9,6 +9,7 @@ pub mod Raises
 pub mod Reads
 pub mod Replace
 pub mod Runs
+pub mod RunsBack
 pub mod Sets
 pub mod Sights
 pub mod Sizes

@@ -23,6 +23,7 @@ mod reach;
 mod replace;
 mod reshape;
 pub(crate) mod run;
+pub(crate) mod run_back;
 mod set;
 mod sizes;
 mod split;

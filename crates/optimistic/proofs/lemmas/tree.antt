@@ -16,6 +16,7 @@ pub mod Reading
 pub mod Rebuilding
 pub mod Replaced
 pub mod Runs
+pub mod RunsBack
 pub mod Sets
 pub mod Sights
 pub mod Reshaping
