@@ -3,6 +3,7 @@ pub mod Computes
 pub mod Many
 pub mod Refusals
 pub mod Scans
+pub mod ScansBack
 pub mod Walks
 pub mod Words
 pub mod Workers

@@ -8,6 +8,7 @@ mod many;
 mod pool;
 mod refusal;
 mod scans;
+mod scans_back;
 mod seen;
 mod walk;
 mod wholes;

@@ -4,3 +4,4 @@ pub mod Knowing
 pub mod Logs
 pub mod Many
 pub mod Scanning
+pub mod ScanningBack
