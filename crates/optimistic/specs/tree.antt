@@ -18,4 +18,5 @@ pub mod Trades
 pub mod Trails
 pub mod Trees
 pub mod Wholes
+pub mod WholesBack
 pub mod Writes

@@ -32,6 +32,7 @@ mod trade;
 pub(crate) mod trail;
 mod used;
 mod whole;
+mod whole_back;
 mod write;
 
 pub use fresh::Free;

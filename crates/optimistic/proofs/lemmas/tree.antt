@@ -24,5 +24,6 @@ pub mod Setting
 pub mod Splitting
 pub mod Taking
 pub mod Wholes
+pub mod WholesBack
 pub mod Writing
 pub mod Trails
