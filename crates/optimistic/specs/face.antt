@@ -5,6 +5,7 @@ pub mod Refusals
 pub mod Scans
 pub mod ScansBack
 pub mod Walks
+pub mod WalksBack
 pub mod Words
 pub mod Workers
 pub mod Writes

@@ -11,7 +11,9 @@ mod scans;
 mod scans_back;
 mod seen;
 mod walk;
+mod walk_back;
 mod wholes;
+mod wholes_back;
 mod worker;
 mod writes;
 
@@ -21,4 +23,5 @@ pub use index::{LEAST_WORDS, MOST_WORDS, U64Congee};
 pub use refusal::{Refusal, Uninserted, Unopened};
 pub use seen::Seen;
 pub use walk::Walk;
+pub use walk_back::WalkBack;
 pub use worker::Worker;

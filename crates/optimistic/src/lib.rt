@@ -15,6 +15,6 @@ mod words;
 pub use drain::{Locked, Pair, Pairs, Undrained};
 pub use face::{
     Congee, LEAST_WORDS, MOST_WORDS, Refusal, Retired, Seen, U64Congee, Uninserted, Unopened, Walk,
-    WordWorker, Worker,
+    WalkBack, WordWorker, Worker,
 };
 pub use tree::Unscanned;

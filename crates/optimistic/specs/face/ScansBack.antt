@@ -4,6 +4,7 @@ use Rattle.std.specs.List.{AllPairs, Contains}
 use Rattle.optimistic.specs.declared.drain.nexts.Pair.{Pair}
 use Rattle.optimistic.specs.declared.tree.run.Run.{Run}
 use Rattle.optimistic.specs.tree.RunsBack.{lowest, IsDrainedBack}
+use Rattle.optimistic.specs.tree.WholesBack.{IsRangeBack}
 use Rattle.optimistic.specs.face.Calls.{Known, Looked}
 use Rattle.optimistic.specs.face.Scans.{Once, Rise, StoodThroughout, HasKey}
 
@@ -23,3 +24,7 @@ pub record IsScanBack (from to places : ℕ) (v w : Known) (pairs : List Pair) :
   pub inside : (p : Pair) → Contains pairs p → (from ≤ p.key) × (p.key < to)
   pub stood : Rise v.seen pairs w.seen
   pub all : (key : ℕ) → from ≤ key → key < to → StoodThroughout key v w → HasKey pairs key ⊎ ((length pairs ≡ places) × ((p : Pair) → Contains pairs p → key < p.key))
+
+-- at one moment these were the pairs of the keys from one on and below another, from the greatest down, or as many as there are places
+abbrev pub RangeBackAtOnce : (from to places : ℕ) → List Pair → Known → Known → Type 0
+RangeBackAtOnce from to places pairs v w = Once (λ log. IsRangeBack log from to places pairs) v w

@@ -1,5 +1,5 @@
 -- What a backward scan has found so far, pair by pair.
-use Rattle.std.proofs.Common.{◌≡◌, ◌⊎◌, ℕ, ◌+◌, ◌<◌, ◌≤◌, List, [], ◌++◌, length, None, sym, refl, le_refl, inl, inr, arith}
+use Rattle.std.proofs.Common.{◌≡◌, ◌⊎◌, ℕ, ◌<◌, ◌≤◌, List, [], ◌++◌, length, None, Some, sym, le_refl, inl, inr, arith}
 use Rattle.std.specs.List.{AllPairs, Contains}
 use mathlib.Core.List.{append-nil}
 use Rattle.std.proofs.lemmas.Bool.{cases_lt}
@@ -7,12 +7,13 @@ use Rattle.std.proofs.lemmas.List.Elements.{Contains-append_right, Contains-appe
 use Rattle.optimistic.specs.declared.drain.nexts.Pair.{Pair}
 use Rattle.optimistic.specs.words.Kept.{value_of}
 use Rattle.optimistic.specs.tree.Drained.{pair_of}
+use Rattle.optimistic.specs.tree.Nexts.{HasNone}
 use Rattle.optimistic.specs.tree.RunsBack.{IsDrainedBack}
 use Rattle.optimistic.specs.face.Calls.{Known, Saw}
-use Rattle.optimistic.specs.face.Scans.{Once, Rise, StoodThroughout, HasKey}
+use Rattle.optimistic.specs.face.Scans.{Once, LastBelow, Rise, StoodThroughout, HasKey}
 use Rattle.optimistic.specs.face.ScansBack.{IsScanBack}
 use Rattle.optimistic.proofs.lemmas.face.Knowing.{saw_refl, saw_trans}
-use Rattle.optimistic.proofs.lemmas.face.Scanning.{Lacked, once_from, either_way, rise_at, rise_both, has_value, never}
+use Rattle.optimistic.proofs.lemmas.face.Scanning.{Lacked, once_from, once_here, either_way, rise_at, rise_both, has_value, never}
 use Rattle.optimistic.proofs.lemmas.tree.RunsBack.{pairs_both}
 
 -- the keys from one on, down to which all were told, and below another
@@ -82,3 +83,13 @@ module _ (from low to places : ℕ) (v w : Known) (pairs : List Pair) (s : IsSoF
     stood = s.stood;
     all = λ key above below stands. pick key stands (s.passed key (omega (arith, above, end)) below);
   }
+
+-- a walk back that has ended, and two that end
+pub walk_back_ended : (first : ℕ) (v : Known) → Once (λ log. HasNone log first 0) v v
+walk_back_ended first v = once_here (λ log. HasNone log first 0) v (λ k above below. absurd (omega (arith, below)))
+
+pub walk_back_none : (first to : ℕ) (v w : Known) → LastBelow to None v w → Once (λ log. HasNone log first to) v w
+walk_back_none first to v w l = record { log = l.1.log; after = l.1.after; before = l.1.before; holds = λ k above below. l.1.holds k (omega arith) below }
+
+pub walk_back_past : (first to : ℕ) (p : Pair) (v w : Known) → p.key < first → LastBelow to (Some p) v w → Once (λ log. HasNone log first to) v w
+walk_back_past first to p v w past l = record { log = l.1.log; after = l.1.after; before = l.1.before; holds = λ k above below. l.1.holds.2 k (omega (arith, above, past)) below }
