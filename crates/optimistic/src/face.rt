@@ -3,6 +3,7 @@
 mod close;
 mod computes;
 mod congee;
+mod congee_back;
 mod index;
 mod many;
 mod pool;
