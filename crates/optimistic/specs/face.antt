@@ -4,7 +4,9 @@ pub mod Many
 pub mod Openings
 pub mod Refusals
 pub mod Scans
+pub mod ScansBack
 pub mod Walks
+pub mod WalksBack
 pub mod Words
 pub mod Workers
 pub mod Writes

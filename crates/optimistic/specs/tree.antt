@@ -9,6 +9,7 @@ pub mod Raises
 pub mod Reads
 pub mod Replace
 pub mod Runs
+pub mod RunsBack
 pub mod Sets
 pub mod Sights
 pub mod Sizes
@@ -17,4 +18,5 @@ pub mod Trades
 pub mod Trails
 pub mod Trees
 pub mod Wholes
+pub mod WholesBack
 pub mod Writes

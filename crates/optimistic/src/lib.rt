@@ -15,6 +15,6 @@ mod words;
 pub use drain::{Locked, Pair, Pairs, Undrained};
 pub use face::{
     Congee, Filled, LEAST_WORDS, MOST_WORDS, Refusal, Retired, Seen, U64Congee, Unfilled,
-    Uninserted, Unopened, Unreopened, Walk, WordWorker, Worker,
+    Uninserted, Unopened, Unreopened, Walk, WalkBack, WordWorker, Worker,
 };
 pub use tree::Unscanned;

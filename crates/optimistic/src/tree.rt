@@ -23,6 +23,7 @@ mod reach;
 mod replace;
 mod reshape;
 pub(crate) mod run;
+pub(crate) mod run_back;
 mod set;
 mod sizes;
 mod split;
@@ -31,6 +32,7 @@ mod trade;
 pub(crate) mod trail;
 mod used;
 mod whole;
+mod whole_back;
 mod write;
 
 pub use fresh::Free;

@@ -5,3 +5,4 @@ pub mod Logs
 pub mod Many
 pub mod Rooms
 pub mod Scanning
+pub mod ScanningBack

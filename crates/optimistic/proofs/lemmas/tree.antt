@@ -16,6 +16,7 @@ pub mod Reading
 pub mod Rebuilding
 pub mod Replaced
 pub mod Runs
+pub mod RunsBack
 pub mod Sets
 pub mod Sights
 pub mod Reshaping
@@ -23,5 +24,6 @@ pub mod Setting
 pub mod Splitting
 pub mod Taking
 pub mod Wholes
+pub mod WholesBack
 pub mod Writing
 pub mod Trails

@@ -38,7 +38,7 @@ pub struct Congee<K, V> {
 /// A thread's worker at such an index.
 #[derive(Drop)]
 pub struct WordWorker<'t, K, V> {
-    worker: Worker<'t>,
+    pub(crate) worker: Worker<'t>,
     words: PhantomData<(K, V)>,
 }
 
@@ -74,7 +74,7 @@ fn either_words<V: Word64>(
 }
 
 /// The key and the value of a pair.
-fn pair_words<K: Word64, V: Word64>(pair: Option<Pair>) -> Option<(K, V)>
+pub(crate) fn pair_words<K: Word64, V: Word64>(pair: Option<Pair>) -> Option<(K, V)>
     ensures { result ≡ pair_words K.of_word V.of_word pair }
 {
     match pair {

@@ -1,5 +1,5 @@
 //! The bytes at which a node may have a child, the first of them from one on, and the last up to one.
-ghost use Rattle.std.specs.Prelude.{◌≡◌, ◌≢◌, ℕ, ◌+◌, ◌*◌, ◌^◌, ◌<◌, ◌≤◌, get_or};
+ghost use Rattle.std.specs.Prelude.{◌≡◌, ◌≢◌, ℕ, ◌+◌, ◌-◌, ◌*◌, ◌^◌, ◌<◌, ◌≤◌, get_or};
 ghost use Rattle.std.specs.Int.{bit_at};
 ghost use Rattle.optimistic.specs.Layout.{room};
 ghost use Rattle.optimistic.specs.forms.Children.{byte_in, mask_of, taken_in, IsForm};
@@ -25,6 +25,7 @@ pub fn first_set(masks: &[u64; 4], from: u8) -> usize
 pub fn last_set(masks: &[u64; 4], to: u8) -> usize
     ensures bound { result ≤ to + 1 }
     ensures none { (k : ℕ) → result ≤ k → k < to + 1 → bit_in masks.now k ≡ 0 }
+    ensures set { 0 < result → bit_in masks.now (result - 1) ≡ 1 }
 {
     let mut end = to as usize + 1;
     while end > 0 {

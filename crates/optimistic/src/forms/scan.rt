@@ -1,5 +1,5 @@
 //! The taken bytes of a node in ascending order.
-ghost use Rattle.std.specs.Prelude.{◌≡◌, ◌↔◌, ℕ, ◌+◌, ◌*◌, ◌<◌, ◌≤◌, ◌/◌, ◌^◌, get_or, set, length, MatchOption, IsSome};
+ghost use Rattle.std.specs.Prelude.{◌≡◌, ◌↔◌, ℕ, ◌+◌, ◌-◌, ◌*◌, ◌<◌, ◌≤◌, ◌/◌, ◌^◌, get_or, set, length, MatchOption, IsSome};
 ghost use Rattle.std.specs.FinMap as map;
 ghost use Rattle.optimistic.specs.forms.Held.{held, IsNode};
 ghost use Rattle.std.specs.Int.{bit_at};
@@ -29,6 +29,7 @@ pub fn last_in(mask: u64, to: usize) -> usize
     requires { to < 64 }
     ensures bound { result ≤ to + 1 }
     ensures none { (k : ℕ) → result ≤ k → k ≤ to → bit_at mask k ≡ 0 }
+    ensures set { 0 < result → bit_at mask (result - 1) ≡ 1 }
 {
     let rest = mask & (u64::MAX >> (63 - to));
     64 - rest.leading_zeros() as usize

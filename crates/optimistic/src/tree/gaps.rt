@@ -125,7 +125,7 @@ impl Tree {
 
     /// The same of the bytes up to one.
     #[inline(always)]
-    fn back_gap_of_wide(&self, hand: &mut Hand, node: usize, to: u8) -> usize
+    pub(crate) fn back_gap_of_wide(&self, hand: &mut Hand, node: usize, to: u8) -> usize
         requires of { IsOf self.now.nodes.table.shared.table_id hand.old }
         requires at { HasForm node 4 (view hand.old) }
         ensures of { IsOf self.now.nodes.table.shared.table_id hand.new }

@@ -236,7 +236,7 @@ fn is_later(next: Option<u64>, from: u64) -> bool
 impl Tree {
     /// The bytes at which a node may have children, where it has no word for each, and their places, where they aren't the bytes.
     #[inline(always)]
-    fn bytes_there(&self, hand: &mut Hand, at: Place, places: &mut [u8; 256]) -> [u64; 4]
+    pub(crate) fn bytes_there(&self, hand: &mut Hand, at: Place, places: &mut [u8; 256]) -> [u64; 4]
         requires of { IsOf self.now.nodes.table.shared.table_id hand.old }
         requires at { IsPlace at (view hand.old) }
         ensures of { IsOf self.now.nodes.table.shared.table_id hand.new }
@@ -274,7 +274,7 @@ impl Tree {
 
     /// The child of a key. At a node of 256 values the look-up is in place here: it's the shortest.
     #[inline(always)]
-    fn child_there(&self, hand: &mut Hand, at: Place, key: u64, byte: u8) -> Child
+    pub(crate) fn child_there(&self, hand: &mut Hand, at: Place, key: u64, byte: u8) -> Child
         requires of { IsOf self.now.nodes.table.shared.table_id hand.old }
         requires at { IsPlace at (view hand.old) }
         ensures of { IsOf self.now.nodes.table.shared.table_id hand.new }
@@ -309,7 +309,7 @@ impl Tree {
 
     /// The entry of a place of a node of up to 48. Of a node of values the first word says no more than that.
     #[inline(always)]
-    fn entry(&self, hand: &mut Hand, at: Place, place: usize) -> Child
+    pub(crate) fn entry(&self, hand: &mut Hand, at: Place, place: usize) -> Child
         requires of { IsOf self.now.nodes.table.shared.table_id hand.old }
         requires at { IsPlace at (view hand.old) }
         requires inside { place < room at.form }

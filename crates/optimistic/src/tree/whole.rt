@@ -48,7 +48,7 @@ pub struct Reached {
 }
 
 /// What is to be kept in mind of what a node told.
-fn mark_of(run: Run) -> Mark
+pub(crate) fn mark_of(run: Run) -> Mark
     ensures { result ≡ mark_of run }
 {
     Mark {
@@ -72,7 +72,7 @@ fn are_same(a: Mark, b: Mark) -> bool
 }
 
 /// Keeps a node in mind, unless it is the last that was.
-fn remember(marks: &mut Vec<Mark>, mark: Mark) -> Result<(), Unscanned>
+pub(crate) fn remember(marks: &mut Vec<Mark>, mark: Mark) -> Result<(), Unscanned>
     ensures { IfOk result (λ _. HasMore marks.old.items mark marks.new.items) }
 {
     let count = marks.len();
@@ -170,7 +170,7 @@ impl Tree {
     }
 
     /// Whether each node that is kept in mind still has its version.
-    fn are_still(&self, hand: &mut Hand, marks: &[Mark]) -> bool
+    pub(crate) fn are_still(&self, hand: &mut Hand, marks: &[Mark]) -> bool
         requires of { IsOf self.now.nodes.table.shared.table_id hand.old }
         requires seen { AreSeen marks.now (view hand.old) }
         ensures of { IsOf self.now.nodes.table.shared.table_id hand.new }

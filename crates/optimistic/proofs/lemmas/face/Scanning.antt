@@ -58,18 +58,18 @@ so_far_none from v = record {
   passed = λ key above below. absurd (omega arith);
 }
 
-either_way : (key : ℕ) (u v w : Known) (pairs more : List Pair) → Saw v w → HasKey pairs key ⊎ Lacked key u v → HasKey (pairs ++ more) key ⊎ Lacked key u w
+pub either_way : (key : ℕ) (u v w : Known) (pairs more : List Pair) → Saw v w → HasKey pairs key ⊎ Lacked key u v → HasKey (pairs ++ more) key ⊎ Lacked key u w
 either_way key u v w pairs more s o = elim o [
   | inl h ↦ inl (h.0, Contains-append_left pairs more (pair_of key h.0) h.1)
   | inr l ↦ inr (once_to (λ log. value_of key log ≡ None) u v w l s)
 ]
 
 -- each pair of a run stood at one moment
-rise_at : (log : List Entry) (ps : List Pair) (end : List Entry) → ((p : Pair) → Contains ps p → value_of p.key log ≡ Some p.value) → StartsWith end log → Rise log ps end
+pub rise_at : (log : List Entry) (ps : List Pair) (end : List Entry) → ((p : Pair) → Contains ps p → value_of p.key log ≡ Some p.value) → StartsWith end log → Rise log ps end
 rise_at log [] end is s = s
 rise_at log (p ∷ ps) end is s = (log, ([], sym (append-nil log)), is p (Contains-append_left (p ∷ []) ps p (0, omega arith, refl)), rise_at log ps end (λ q c. is q (Contains-append_right (p ∷ []) ps q c)) s)
 
-rise_both : (seen : List Entry) (xs ys : List Pair) (mid log end : List Entry) → Rise seen xs mid → StartsWith log mid → Rise log ys end → Rise seen (xs ++ ys) end
+pub rise_both : (seen : List Entry) (xs ys : List Pair) (mid log end : List Entry) → Rise seen xs mid → StartsWith log mid → Rise log ys end → Rise seen (xs ++ ys) end
 rise_both seen [] ys mid log end r s t = rise_from seen mid log ys end r s t
   where
     rise_from : (seen mid log : List Entry) (ys : List Pair) (end : List Entry) → StartsWith mid seen → StartsWith log mid → Rise log ys end → Rise seen ys end
@@ -77,7 +77,7 @@ rise_both seen [] ys mid log end r s t = rise_from seen mid log ys end r s t
     rise_from seen mid log (y ∷ ys) end r s t = (t.0, starts_trans seen mid t.0 r (starts_trans mid log t.0 s t.1), t.2, t.3)
 rise_both seen (x ∷ xs) ys mid log end r s t = (r.0, r.1, r.2, rise_both r.0 xs ys mid log end r.3 s t)
 
-has_value : (o : Option ℕ) → (o ≡ None) ⊎ ((x : ℕ) × (o ≡ Some x))
+pub has_value : (o : Option ℕ) → (o ≡ None) ⊎ ((x : ℕ) × (o ≡ Some x))
 has_value None = inl refl
 has_value (Some x) = inr (x, refl)
 
@@ -101,7 +101,7 @@ so_far_run from next to v u w pairs more old later order once = record {
   ];
 }
 
-never : (key : ℕ) (v w : Known) → StoodThroughout key v w → Lacked key v w → ⊥
+pub never : (key : ℕ) (v w : Known) → StoodThroughout key v w → Lacked key v w → ⊥
 never key v w stands l = stands l.log l.after l.before l.holds
 
 -- the scan ends: all keys were asked for, or the places are filled

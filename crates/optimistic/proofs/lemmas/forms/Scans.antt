@@ -1,8 +1,9 @@
 -- The next bit that is set.
-use Rattle.std.proofs.Common.{◌≡◌, ◌≢◌, ℕ, ◌+◌, ◌-◌, ◌*◌, ◌/◌, ◌%◌, ◌^◌, ◌<◌, ◌≤◌, sym, ap, ◌∙◌, arith, shr-shr, inl, inr, bit_and, pow_pos, pow_mono, pow-add, List, [], ◌∷◌, get_or, set, length, ◌⊎◌}
+use Rattle.std.proofs.Common.{◌≡◌, ◌≢◌, ℕ, suc, ◌+◌, ◌-◌, ◌*◌, ◌/◌, ◌%◌, ◌^◌, ◌<◌, ◌≤◌, sym, ap, ◌∙◌, arith, shr-shr, inl, inr, bit_and, pow_pos, pow_mono, pow-add, List, [], ◌∷◌, get_or, set, length, ◌⊎◌}
+use native.Mathlib.Numerals.{unary_clauses}
 use Rattle.std.proofs.lemmas.List.{get_or-set_other}
 use Rattle.std.proofs.lemmas.Grind.{get_or-set_at}
-use Rattle.std.proofs.lemmas.Nat.{leading_length, leading_top, div_below, and_le_r}
+use Rattle.std.proofs.lemmas.Nat.{leading_length, leading_top, div_below, le-div, and_le_r}
 use Rattle.std.proofs.lemmas.Nat.Bits.{bit_at-zero, bit_at-lt, bit_at_above, bit_at_and, bit_at_ones}
 use Rattle.std.specs.Int.Count.{count_leading_zeros, leading_of_zero}
 use Rattle.std.proofs.lemmas.Bool.{cases_lt, cases_eq}
@@ -34,6 +35,15 @@ pub first_from : (m f z : ℕ) → m < 2 ^ 64 → bit_at (m / 2 ^ f) z ≡ 1 →
 first_from m f z small is below =
     let here : bit_at m (f + z) ≡ 1 = sym (shifted_bit m f z) ∙ is in
     (omega arith, set_below m (f + z) small here, here, λ k l g. bit_from m f k l ∙ below (k - f) (omega (arith, l, g)))
+
+-- the highest bit of a number
+top_bit : (r j : ℕ) → 2 ^ j ≤ r → r < 2 ^ suc j → bit_at r j ≡ 1
+top_bit r j low high =
+    let above = simp unary_clauses at high in
+    let a = div_below r (2 ^ j) 2 (pow_pos j) (omega (arith, above)) in
+    let b = le-div 1 r (2 ^ j) (pow_pos j) (omega (arith, low)) in
+    let one : r / 2 ^ j ≡ 1 = omega (arith, a, b) in
+    ap (λ (z : ℕ). z % 2) one
 
 -- Of a word the bits up to one, and the zeros that lead them
 module _ (m to : ℕ) (l : to < 64) where
@@ -79,6 +89,21 @@ module _ (m to : ℕ) (l : to < 64) where
         ]
   ]
 
+  -- the highest of them is set
+  pub last_top : 0 < 64 - zeros → bit_at m (64 - zeros - 1) ≡ 1
+  last_top some = elim (cases_eq rest 0) [
+    | inl e ↦ let z : zeros ≡ 64 = ap (count_leading_zeros 64) e ∙ leading_of_zero 64 in absurd (omega (arith, z, some))
+    | inr ne ↦
+        let t = leading_top 64 rest (omega (arith, ne)) rest_word in
+        let j : ℕ = t.0 in
+        let sum = t.1 in
+        let at : 64 - zeros - 1 ≡ j = omega (arith, sum) in
+        let here : bit_at rest j ≡ 1 = top_bit rest j t.2 t.3 in
+        let both = bit_at_and m ((2 ^ 64 - 1) / 2 ^ (63 - to)) j in
+        let bit = bit_at-lt m j in
+        ap (bit_at m) at ∙ omega (arith, both, here, bit)
+  ]
+
 -- the same in a list of words, from a place in word w on
 pub in_word : (masks : List ℕ) (w k : ℕ) → k < 64 → bit_in masks (w * 64 + k) ≡ bit_at (get_or masks w 0) k
 in_word masks w k l =
@@ -116,6 +141,11 @@ back_none masks end last to some before none k l g = elim (cases_lt k end) [
       ap (bit_in masks) e ∙ in_word masks ((end - 1) / 64) (k % 64) (omega arith) ∙ none (k % 64) (omega (arith, e, l)) (omega (arith, e, b, some))
   | inr a ↦ before k a g
 ]
+
+pub back_top : (masks : List ℕ) (w last : ℕ) → 0 < last → last ≤ 64 → bit_at (get_or masks w 0) (last - 1) ≡ 1 → bit_in masks (w * 64 + last - 1) ≡ 1
+back_top masks w last some few is =
+    let e : w * 64 + last - 1 ≡ w * 64 + (last - 1) = omega (arith, some) in
+    ap (bit_in masks) e ∙ in_word masks w (last - 1) (omega (arith, some, few)) ∙ is
 
 -- the bytes of the places that are no more in `rest` are in the masks, and only such
 pub record IsCollected (key : ℕ → ℕ) (mask rest : ℕ) (masks : List ℕ) : Type 0 where

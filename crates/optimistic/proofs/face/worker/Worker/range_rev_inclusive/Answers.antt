@@ -1,0 +1,87 @@
+use Rattle.std.proofs.Common.{◌≡◌, ℕ, ◌+◌, ◌++◌, ◌≤◌, List, Option, IfSome, length, take, drop, ap, sym, ◌∙◌, subst, arith}
+use Rattle.std.proofs.lemmas.List.{length-take-le, drop-drop}
+use Rattle.optimistic.specs.declared.drain.nexts.Pair.{Pair}
+use Rattle.optimistic.specs.tree.RunsBack.{lowest}
+use Rattle.optimistic.proofs.lemmas.face.ScanningBack.{IsSoFarBack, so_far_back_run, scan_back_full, scan_back_done}
+use Rattle.optimistic.proofs.face.worker.Worker.range_rev_inclusive.Goals as goal
+
+-- as many as are taken, and no more than there are places
+few : (n : ℕ) (out old : List Pair) → n ≤ length out → length out ≡ length old → length (take n out) ≤ length old
+few n out old low same = let e = length-take-le n out low in omega (arith, e, low, same)
+
+-- what is behind the places that are written stays
+past : (n k : ℕ) (new out old : List Pair) → drop (n + k) new ≡ drop (n + k) out → drop n out ≡ drop n old → drop (n + k) new ≡ drop (n + k) old
+past n k new out old a b = a ∙ sym (drop-drop k n out) ∙ ap (λ (l : List Pair). drop k l) b ∙ drop-drop k n old
+
+pub loop-count-preserved : goal.loop-count-preserved
+loop-count-preserved g c =
+    let i = c.loop-count.invariant in
+    let n : ℕ = c.loop-count.count in
+    let out = c.loop-count.out in
+    let old = c.args.out.now in
+    let from : ℕ = c.loop-count.from in
+    let start : ℕ = c.args.start in
+    let last : ℕ = c.args.last in
+    let r = c.back_run-run.result in
+    let told = c.back_run-run.ensures.run in
+    let next : ℕ = c.in-Some.next in
+    let v = c.args.self.now in
+    let u = c.loop-count.self in
+    let w = c.back_run-run.new.self in
+    let more = take r.count c.back_run-run.new.pairs in
+    let later = told.later in
+    let is : lowest start r.next ≡ next + 1 = ap (λ (o : Option ℕ). lowest start o) c.in-Some.is in
+    let all : IsSoFarBack (lowest start r.next) (last + 1) v w (take n out ++ more) = so_far_back_run (lowest start r.next) (from + 1) (last + 1) v u w (take n out) more i.0 told.looked.0 (omega (arith, later)) told.once in
+    let inside : start ≤ next = subst (λ (o : Option ℕ). IfSome o (λ k. start ≤ k)) c.in-Some.is told.inside in
+    let few = told.few in
+    let room = c.fewer-places.ensures.0 in
+    let low = i.2 in
+    let same = c.put_all.ensures.same in (
+      subst (λ (z : ℕ × List Pair). IsSoFarBack z.0 (last + 1) v w z.1) (λ t. (is t, sym c.put_all.ensures.pairs t)) all,
+      inside,
+      omega (arith, few, room, low, same),
+      same ∙ i.3,
+      past n r.count c.put_all.new.out out old c.put_all.ensures.past i.4,
+      c.back_run-run.ensures.trail,
+      c.back_run-run.ensures.same ∙ i.6,
+    )
+
+pub returns-in-None-clause-scan : goal.returns-in-None-clause-scan
+returns-in-None-clause-scan g c =
+    let i = c.loop-count.invariant in
+    let n : ℕ = c.loop-count.count in
+    let out = c.loop-count.out in
+    let from : ℕ = c.loop-count.from in
+    let start : ℕ = c.args.start in
+    let last : ℕ = c.args.last in
+    let r = c.back_run-run.result in
+    let told = c.back_run-run.ensures.run in
+    let v = c.args.self.now in
+    let u = c.loop-count.self in
+    let w = c.back_run-run.new.self in
+    let more = take r.count c.back_run-run.new.pairs in
+    let later = told.later in
+    let is : lowest start r.next ≡ start = ap (λ (o : Option ℕ). lowest start o) c.in-None.is in
+    let all : IsSoFarBack (lowest start r.next) (last + 1) v w (take n out ++ more) = so_far_back_run (lowest start r.next) (from + 1) (last + 1) v u w (take n out) more i.0 told.looked.0 (omega (arith, later)) told.once in
+    let few' = told.few in
+    let room = c.fewer-places.ensures.0 in
+    let low = i.2 in
+    let same = c.put_all.ensures.same in
+    scan_back_done start (lowest start r.next) (last + 1) (length c.args.out.now) v w (take (n + r.count) c.put_all.new.out)
+    (subst (λ (l : List Pair). IsSoFarBack (lowest start r.next) (last + 1) v w l) (sym c.put_all.ensures.pairs) all) is
+    (few (n + r.count) c.put_all.new.out c.args.out.now (omega (arith, few', room, low, same)) (same ∙ i.3))
+
+pub returns-in-None-clause-past : goal.returns-in-None-clause-past
+returns-in-None-clause-past g c = past c.loop-count.count c.back_run-run.result.count c.put_all.new.out c.loop-count.out c.args.out.now c.put_all.ensures.past c.loop-count.invariant.4
+
+pub returns-clause-scan : goal.returns-clause-scan
+returns-clause-scan g c =
+    let i = c.loop-count.invariant in
+    let n : ℕ = c.loop-count.count in
+    let out = c.loop-count.out in
+    let over = c.loop-count-test.false in
+    let most = i.2 in
+    let all : n ≡ length out = omega (arith, over, most) in
+    let order = i.1 in
+    let full : length (take n out) ≡ length c.args.out.now = length-take-le n out most ∙ all ∙ i.3 in
+    scan_back_full c.args.start (c.loop-count.from + 1) (c.args.last + 1) (length c.args.out.now) c.args.self.now c.loop-count.self (take n out) i.0 full (omega (arith, order))

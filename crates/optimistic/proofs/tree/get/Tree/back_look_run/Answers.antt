@@ -1,0 +1,80 @@
+use Rattle.std.proofs.Common.{◌≡◌, ◌≢◌, ℕ, ◌+◌, ◌%◌, ◌≤◌, take, rules, sym, ◌∙◌, subst, inl, inr, arith}
+use Rattle.optimistic.specs.Layout.{where_of}
+use Rattle.optimistic.specs.words.Told.{Looks}
+use Rattle.optimistic.specs.tree.Reads.{Steady}
+use Rattle.optimistic.specs.tree.RunsBack.{lowest, ShowsRunBack, IsRunBack}
+use Rattle.optimistic.specs.tree.Trees.{IsTree}
+use Rattle.optimistic.proofs.lemmas.drain.Keys.{precedes}
+use Rattle.optimistic.proofs.lemmas.tree.Reading.{looks_trans}
+use Rattle.optimistic.proofs.lemmas.tree.RunsBack.{near_down, run_back_there, run_back_made}
+use Rattle.optimistic.proofs.lemmas.tree.Setting.{place_since}
+use Rattle.optimistic.proofs.lemmas.words.Moments.{width_more, since_trans}
+use Rattle.optimistic.proofs.tree.get.Tree.back_look_run.Goals as goal
+
+pub load-version-requires-clause-at : goal.load-version-requires-clause-at
+load-version-requires-clause-at c = c.requires.at.at
+
+pub load-version-requires-clause-inside : goal.load-version-requires-clause-inside
+load-version-requires-clause-inside c = let m = width_more c.args.at.form c.requires.at.some c.requires.at.form in omega arith
+
+pub read-found-requires-clause-at : goal.read-found-requires-clause-at
+read-found-requires-clause-at c = (place_since c.args.at c.args.hand.now.me.0 c.load-version.new.hand.me.0 c.load-version.ensures.looks.since c.requires.at).at
+
+pub read-found-requires-clause-inside : goal.read-found-requires-clause-inside
+read-found-requires-clause-inside c = let m = width_more c.args.at.form c.requires.at.some c.requires.at.form in (omega arith, omega arith)
+
+pub returns-then-found-word-clause-looks : goal.returns-then-found-word-clause-looks
+returns-then-found-word-clause-looks c = looks_trans _ _ _ c.load-version.ensures.looks c.read-found.ensures.looks
+
+pub returns-then-version-eq1-clause-looks : goal.returns-then-version-eq1-clause-looks
+returns-then-version-eq1-clause-looks c = looks_trans _ _ _ c.load-version.ensures.looks c.read-found.ensures.looks
+
+pub back_run_in-part-requires-clause-order : goal.back_run_in-part-requires-clause-order
+back_run_in-part-requires-clause-order c =
+    let whole : c.first_key.result ≤ c.args.from = precedes c.args.from c.args.at.level 0 c.first_key.result c.requires.at.level (omega arith) c.first_key.ensures (omega arith) in
+    let order = c.requires.order in
+    elim c.greater-stop.ensures.2 [
+      | inl e ↦ omega (arith, e, order)
+      | inr e ↦ omega (arith, e, whole)
+    ]
+
+pub back_run_in-part-requires-clause-near : goal.back_run_in-part-requires-clause-near
+back_run_in-part-requires-clause-near c k above below =
+    let low = c.greater-stop.ensures.1 in
+    near_down c.args.from c.args.at.level c.first_key.result c.requires.at.level c.first_key.ensures k (omega (arith, above, low)) below
+
+pub returns-clause-looks : goal.returns-clause-looks
+returns-clause-looks c =
+    let v = c.args.hand.now.me.0 in
+    c.back_run_in-part.ensures.looks v (c.bytes_there-bytes.ensures.looks v (looks_trans v c.load-version.new.hand.me.0 c.read-found.new.hand.me.0 c.load-version.ensures.looks c.read-found.ensures.looks))
+
+pub returns-clause-run : goal.returns-clause-run
+returns-clause-run c =
+    let at = c.args.at in
+    let from : ℕ = c.args.from in
+    let a = c.load-version.new.hand.me.0 in
+    let u = c.read-found.new.hand.me.0 in
+    let x = c.bytes_there-bytes.new.hand.me.0 in
+    let w = c.back_run_in-part.new.hand.me.0 in
+    let r = c.back_run_of.result in
+    let part = c.back_run_in-part.result in
+    let e = c.back_run_of.ensures in
+    let stop : ℕ = c.greater-stop.result in
+    let first : ℕ = c.args.first in
+    let pairs = take part.count c.back_run_in-part.new.out in
+    let odd : c.load-version.result % 2 ≢ 1 = search rules in
+    let here : c.read-found.result ≡ c.where_word-word.result = search rules in
+    let even : c.load-version.result % 2 ≡ 0 = omega (arith, odd) in
+    let covers : Steady at.node at.form 1 (where_of at.form at.level from) a u =
+    subst (λ (z : ℕ). Steady at.node at.form 1 z a u) (here ∙ c.where_word-word.ensures.word) c.read-found.ensures.steady in
+    let after : Looks IsTree a x = c.bytes_there-bytes.ensures.looks a c.read-found.ensures.looks in
+    let later : Looks IsTree a w = c.back_run_in-part.ensures.looks a after in
+    let until = since_trans u.seen x.seen w.seen c.bytes_there-bytes.ensures.since c.back_run_in-part.ensures.since in
+    let shows : ShowsRunBack at from (lowest first r.next) pairs a w =
+    subst (λ (z : ℕ). ShowsRunBack at from z pairs a w) (sym e.next) (c.back_run_in-part.ensures.shows a after (c.bytes_there-bytes.ensures.bytes a c.read-found.ensures.looks)) in
+    let order : lowest first r.next ≤ from + 1 = subst (λ (z : ℕ). z ≤ from + 1) (sym e.next) c.back_run_in-part.ensures.order.0 in
+    subst (λ (z : ℕ). IsRunBack r from first c.args.places (take z c.back_run_in-part.new.out) w) (sym e.same.2)
+    (run_back_made r at c.load-version.result part.count e.same.0 e.same.1 e.same.2 from first c.args.places pairs w
+    (run_back_there record { at = at; version = c.load-version.result; next = r.next; count = part.count; turn = r.turn } from first c.args.places pairs a u w
+    (place_since at c.args.hand.now.me.0 a c.load-version.ensures.looks.since c.requires.at) c.load-version.ensures.found even c.read-found.ensures.looks later until covers shows
+    (e.turn w c.back_run_in-part.ensures.below) c.back_run_in-part.ensures.count order (e.inside c.back_run_in-part.ensures.order.1)))

@@ -1,0 +1,12 @@
+use Rattle.std.proofs.Common.{ℕ, ◌+◌, length, take, subst}
+use Rattle.optimistic.specs.tree.Sights.{Stood}
+use Rattle.optimistic.specs.tree.WholesBack.{IsRangeBack}
+use Rattle.optimistic.proofs.lemmas.tree.Sights.{stood_from}
+use Rattle.optimistic.proofs.tree.get.Tree.whole_back.Goals as goal
+
+pub returns-in-Ok-clause-whole : goal.returns-in-Ok-clause-whole
+returns-in-Ok-clause-whole g c =
+    let i = c.loop.invariant in
+    let pairs = take c.in-Ok.count c.whole_back_soon.new.out in
+    stood_from (λ log. IsRangeBack log c.args.start (c.args.last + 1) (length c.args.out.now) pairs) c.args.hand.now.me.0 c.loop.hand.me.0 c.whole_back_soon.new.hand.me.0 i.3
+    (subst (λ (z : ℕ). Stood (λ log. IsRangeBack log c.args.start (c.args.last + 1) z pairs) c.loop.hand.me.0 c.whole_back_soon.new.hand.me.0) i.4 c.in-Ok.ensures.whole)
