@@ -6,3 +6,5 @@ pub use Rattle.optimistic.proofs.lemmas.face.Logs.{call_later}
 pub use Rattle.optimistic.proofs.lemmas.face.Logs.{call_wrote}
 -- a value that a key has some call gave it
 pub use Rattle.optimistic.proofs.lemmas.face.Logs.{call_value}
+-- where no node was locked at one moment, and none is new or has another version at a later one, no attempt between them comes to nothing
+pub use Rattle.optimistic.proofs.lemmas.tree.Alone.{alone, quiet_some, quiet_answers}
