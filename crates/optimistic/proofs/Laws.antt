@@ -8,3 +8,5 @@ pub use Rattle.optimistic.proofs.lemmas.face.Logs.{call_wrote}
 pub use Rattle.optimistic.proofs.lemmas.face.Logs.{call_value}
 -- no write is refused for want of room at a moment at which 520 words are left
 pub use Rattle.optimistic.proofs.lemmas.face.Rooms.{full_wants}
+-- where no node was locked at one moment, and none is new or has another version at a later one, no attempt between them comes to nothing
+pub use Rattle.optimistic.proofs.lemmas.tree.Alone.{alone, quiet_some, quiet_answers}

@@ -1,3 +1,5 @@
+pub mod Alone
+pub mod Asked
 pub mod Branches
 pub mod Drained
 pub mod Exchanges

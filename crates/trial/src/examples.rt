@@ -4,6 +4,8 @@
 //! function in each build.
 
 #[cfg(test)]
+pub mod alone;
+#[cfg(test)]
 pub mod bounded;
 #[cfg(test)]
 pub mod closing;

@@ -1,3 +1,5 @@
+pub mod Alone
+pub mod Anew
 pub mod Apart
 pub mod Backs
 pub mod Between

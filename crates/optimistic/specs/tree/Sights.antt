@@ -56,10 +56,10 @@ pub record IsSight (s : Sight) (from : ℕ) (v : View) : Type 0 where
   pub least : s.version ≤ word_at v.seen.words s.at.node 0
   pub holds : (m : Moment) → Since v.seen m → Sound IsTree m → word_at m.words s.at.node 0 ≡ s.version → Holds m.log from s.next
 
--- what is told of the keys from one on goes up to another: it is of that key, or of none up to it
+-- what is told of the keys from one on goes up to another: it is of that key, or that none up to it has a value
 abbrev pub Reaches : ℕ → ℕ → Next → Type 0
 Reaches to from (Here x) = from ≡ to
-Reaches to from (Down p) = Unit {0}
+Reaches to from (Down p) = from ≡ to
 Reaches to from (After last) = to ≤ last
 
 abbrev pub IsBack : ℕ → ℕ → Next → Type 0

@@ -1,5 +1,5 @@
 -- The nodes as they were settled are a tree, which the log makes.
-use Rattle.std.specs.Prelude.{◌≢◌, ℕ, List}
+use Rattle.std.specs.Prelude.{◌≡◌, ◌≢◌, ℕ, List}
 use Rattle.optimistic.specs.Layout.{byte_at}
 use Rattle.optimistic.specs.declared.words.rule.Block.{Block}
 use Rattle.optimistic.specs.declared.words.rule.Entry.{Entry}
@@ -23,7 +23,8 @@ first_at calm n key = first_in (calm_at calm n) key
 abbrev pub second_at : List Block → ℕ → ℕ → ℕ
 second_at calm n key = second_in (calm_at calm n) key
 
--- The nodes mean what the log makes of them, and the words of each that covers a key are those of its form
+-- The nodes mean what the log makes of them, the words of each that covers a key are those of its form, and the root covers each key
 pub record IsTree (calm : List Block) (log : List Entry) : Type 0 where
   pub nodes : Means (where_at calm) (first_at calm) (second_at calm) log
   pub forms : (n : ℕ) → where_at calm n ≢ 0 → IsForm (form_of (where_at calm n)) (calm_at calm n)
+  pub top : where_at calm 16 ≡ 32

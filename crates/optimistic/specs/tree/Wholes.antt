@@ -1,16 +1,19 @@
 -- The pairs of a range as they are at one moment, which the versions of all nodes that told of it show.
-use Rattle.std.specs.Prelude.{◌≡◌, ◌⊎◌, ℕ, ◌<◌, ◌≤◌, List, length}
+use Rattle.std.specs.Prelude.{◌≡◌, ◌≢◌, ◌⊎◌, ℕ, ◌<◌, ◌≤◌, List, length, Result, Ok, Err}
 use Rattle.std.specs.List.{Contains}
 use Rattle.optimistic.specs.Layout.{width}
 use Rattle.optimistic.specs.declared.drain.nexts.Pair.{Pair}
 use Rattle.optimistic.specs.declared.tree.run.Run.{Run}
 use Rattle.optimistic.specs.declared.tree.whole.Mark.{Mark}
+use Rattle.optimistic.specs.declared.tree.whole.Unscanned.{Unscanned}
+use Rattle.optimistic.specs.declared.tree.whole.Unscanned.TheVariants.{Again, Memory}
 use Rattle.optimistic.specs.declared.words.rule.Entry.{Entry}
 use Rattle.optimistic.specs.declared.words.rule.Moment.{Moment}
 use Rattle.optimistic.specs.declared.words.rule.View.{View}
 use Rattle.optimistic.specs.words.Calls.{Later}
 use Rattle.optimistic.specs.words.Kept.{word_at, calls_by, Since, Sound}
 use Rattle.optimistic.specs.words.Told.{HasForm}
+use Rattle.optimistic.specs.tree.Alone.{IsDated}
 use Rattle.optimistic.specs.tree.Drained.{IsDrained}
 use Rattle.optimistic.specs.tree.Trees.{IsTree}
 
@@ -21,6 +24,20 @@ AreSeen marks v = (m : Mark) → Contains marks m → HasForm m.node m.form v ×
 -- each has its version
 abbrev pub IsSteadfast : List Mark → Moment → Type 0
 IsSteadfast marks b = (m : Mark) → Contains marks m → word_at b.words m.node 0 ≡ m.version
+
+-- each had it at a moment between two views
+abbrev pub AreDated : List Mark → View → View → Type 0
+AreDated marks v w = (m : Mark) → Contains marks m → IsDated m.node m.version v.seen w.seen
+
+-- one of them has another version
+abbrev pub HasMoved : List Mark → View → Type 0
+HasMoved marks w = (m : Mark) × Contains marks m × (word_at w.seen.words m.node 0 ≢ m.version)
+
+-- this holds where a writer came between
+abbrev pub IfAgain : {A : Type 0} → Result A Unscanned → Type 0 → Type 0
+IfAgain (Ok x) P = Unit {0}
+IfAgain (Err Again) P = P
+IfAgain (Err Memory) P = Unit {0}
 
 -- what is kept in mind of what a node told
 abbrev pub mark_of : Run → Mark

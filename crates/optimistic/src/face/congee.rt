@@ -1,5 +1,5 @@
 //! The index for keys and values of eight bytes.
-ghost use Rattle.std.specs.Prelude.{◌≡◌, ◌+◌, ◌<◌, ◌≤◌, ◌^◌, [], get_or, length, map, take, drop, min, IfErr, IfOk, IfSome, MatchResult};
+ghost use Rattle.std.specs.Prelude.{◌≡◌, ◌+◌, ◌<◌, ◌≤◌, ◌^◌, [], get_or, length, map, take, drop, min, IfErr, IfNone, IfOk, IfSome, MatchResult};
 ghost use Rattle.std.specs.Option.{option_map};
 ghost use Rattle.optimistic.specs.words.Kept.{calls_by, StartsWith};
 ghost use Rattle.optimistic.specs.words.Room.{used};
@@ -11,8 +11,10 @@ ghost use Rattle.optimistic.specs.face.Scans.{FirstFrom, LastBelow, FirstIn, Las
 ghost use Rattle.optimistic.specs.face.Walks.{IsStep};
 ghost use Rattle.optimistic.specs.face.Writes.{IsInserted, IsRemoved, IsExchanged, IsFinal};
 ghost use Rattle.optimistic.specs.face.Words.{As, words, either_words, pair_words, in_words};
+ghost use Rattle.optimistic.specs.tree.Alone.{IsDisturbedIn};
 ghost use Rattle.optimistic.specs.tree.Drained.{IsClosed, HasNoRoot};
 ghost use Rattle.optimistic.specs.tree.Trails.{AreKnown};
+ghost use Rattle.optimistic.specs.tree.Wholes.{IfAgain};
 
 use crate::drain::{Locked, Pair, Pairs};
 use crate::face::close::Retired;
@@ -136,6 +138,7 @@ impl<'t, K: Word64, V: Word64> WordWorker<'t, K, V> {
     pub fn try_get(&mut self, key: &K) -> Option<Option<V>>
         ensures saw { Saw self.old self.new }
         ensures found { IfSome result (λ r. As (λ x. Found (K.word key.now) x self.old self.new) (option_map V.of_word) r) }
+        ensures alone { IfNone result (IsDisturbedIn self.old.moment self.new.moment) }
     {
         match self.worker.try_get(key.to_word()) {
             Some(word) => Some(word_of(word)),
@@ -384,6 +387,7 @@ impl<'t, K: Word64, V: Word64> WordWorker<'t, K, V> {
         ensures range { IfOk result (λ n. RangeAtOnce (K.word start.now) (K.word end.now) (length out.old) (take n out.new) self.old self.new) }
         ensures count { IfOk result (λ n. n ≤ length out.new) }
         ensures saw { Saw self.old self.new }
+        ensures alone { IfAgain result (IsDisturbedIn self.old.moment self.new.moment) }
     {
         self.worker
             .try_range_at_once(alloc, start.to_word(), end.to_word(), out)
@@ -400,6 +404,7 @@ impl<'t, K: Word64, V: Word64> WordWorker<'t, K, V> {
         ensures range { IfOk result (λ n. RangeAtOnce (K.word start.now) (K.word last.now + 1) (length out.old) (take n out.new) self.old self.new) }
         ensures count { IfOk result (λ n. n ≤ length out.new) }
         ensures saw { Saw self.old self.new }
+        ensures alone { IfAgain result (IsDisturbedIn self.old.moment self.new.moment) }
     {
         self.worker
             .try_range_inclusive_at_once(alloc, start.to_word(), last.to_word(), out)

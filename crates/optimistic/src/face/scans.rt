@@ -2,7 +2,7 @@
 //!
 //! Each pair that is told stood at a moment within the call. Of a single pair this is one moment, at which no key stood between
 //! it and the key that was asked for. Of a range it is one for each pair, and these moments rise.
-ghost use Rattle.std.specs.Prelude.{◌≡◌, ℕ, ◌+◌, ◌≤◌, ◌^◌, length, take, drop};
+ghost use Rattle.std.specs.Prelude.{◌≡◌, ℕ, ◌+◌, ◌<◌, ◌≤◌, ◌^◌, length, take, drop};
 ghost use Rattle.optimistic.specs.face.Calls.{Saw};
 ghost use Rattle.optimistic.specs.face.Scans.{FirstFrom, LastBelow, FirstIn, LastIn, Emptiness, IsScan, AreKeys, Counts, IsRunOf};
 ghost use Rattle.optimistic.specs.tree.Trails.{IsTrail};
@@ -117,7 +117,7 @@ impl<'t> Worker<'t> {
     ) -> Run
         requires trail { IsTrail trail.old self.old.moment }
         requires order { from ≤ last }
-        requires room { places ≤ length pairs.old }
+        requires room { (0 < places) × (places ≤ length pairs.old) }
         ensures run { IsRunOf result from last places (take result.count pairs.new) self.old self.new }
         ensures same { length pairs.new ≡ length pairs.old }
         ensures trail { IsTrail trail.new self.new.moment }

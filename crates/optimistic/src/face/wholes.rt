@@ -5,6 +5,8 @@
 ghost use Rattle.std.specs.Prelude.{◌+◌, ◌≤◌, length, take, IfOk};
 ghost use Rattle.optimistic.specs.face.Calls.{Saw};
 ghost use Rattle.optimistic.specs.face.Scans.{RangeAtOnce};
+ghost use Rattle.optimistic.specs.tree.Alone.{IsDisturbedIn};
+ghost use Rattle.optimistic.specs.tree.Wholes.{IfAgain};
 
 use crate::drain::Pair;
 use crate::face::worker::Worker;
@@ -26,6 +28,7 @@ impl<'t> Worker<'t> {
         ensures range { IfOk result (λ n. RangeAtOnce start end (length out.old) (take n out.new) self.old self.new) }
         ensures count { IfOk result (λ n. n ≤ length out.new) }
         ensures saw { Saw self.old self.new }
+        ensures alone { IfAgain result (IsDisturbedIn self.old.moment self.new.moment) }
     {
         match end.checked_sub(1) {
             Some(last) => self.try_range_inclusive_at_once(alloc, start, last, out),
@@ -44,6 +47,7 @@ impl<'t> Worker<'t> {
         ensures range { IfOk result (λ n. RangeAtOnce start (last + 1) (length out.old) (take n out.new) self.old self.new) }
         ensures count { IfOk result (λ n. n ≤ length out.new) }
         ensures saw { Saw self.old self.new }
+        ensures alone { IfAgain result (IsDisturbedIn self.old.moment self.new.moment) }
     {
         if start > last {
             return Ok(0);

@@ -1,8 +1,9 @@
 //! A thread's calls.
-ghost use Rattle.std.specs.Prelude.{◌≡◌, ◌+◌, ◌≤◌, [], IfOk, IfSome};
+ghost use Rattle.std.specs.Prelude.{◌≡◌, ◌+◌, ◌≤◌, [], IfNone, IfOk, IfSome};
 ghost use Rattle.optimistic.specs.words.Kept.{calls_by, StartsWith};
 ghost use Rattle.optimistic.specs.words.Room.{used};
 ghost use Rattle.optimistic.specs.face.Calls.{Saw, Looked, Found};
+ghost use Rattle.optimistic.specs.tree.Alone.{IsDisturbedIn};
 ghost use Rattle.optimistic.specs.face.Workers.{IsWritten, WantsRoom};
 
 use crate::face::close::Retired;
@@ -101,6 +102,7 @@ impl<'t> Worker<'t> {
     pub fn try_get(&mut self, key: u64) -> Option<Option<u64>>
         ensures saw { Saw self.old self.new }
         ensures found { IfSome result (λ x. Found key x self.old self.new) }
+        ensures alone { IfNone result (IsDisturbedIn self.old.moment self.new.moment) }
     {
         self.tree.try_get(&mut self.hand, key)
     }

@@ -18,7 +18,6 @@ use crate::tree::names::{may_go_on, place_below};
 use crate::tree::place::{Look, Place};
 use crate::words::Hand;
 use std::sync::Wait;
-use std::thread::yield_now;
 
 /// How many keys are looked up side by side.
 pub const GROUP: usize = 8;
@@ -124,13 +123,7 @@ impl Tree {
         if let Some(value) = self.try_by(hand, at, key) {
             return value;
         }
-        for _ in rt.forever() {
-            if let Some(value) = self.try_by(hand, TOP, key) {
-                return value;
-            }
-            yield_now();
-        }
-        unreachable!()
+        self.get(rt, hand, key)
     }
 
     /// Looks a key up from where its way led.

@@ -1,14 +1,15 @@
 //! The look-up.
-ghost use Rattle.std.specs.Prelude.{◌≡◌, ◌≢◌, ℕ, ◌<◌, ◌≤◌, ◌+◌, ◌%◌, ◌^◌, [], IfSome, IfOk, true};
+ghost use Rattle.std.specs.Prelude.{◌≡◌, ◌≢◌, ℕ, ◌<◌, ◌≤◌, ◌+◌, ◌%◌, ◌^◌, [], IfNone, IfSome, IfOk, true};
 ghost use Rattle.optimistic.specs.Layout.{width};
 ghost use Rattle.optimistic.specs.words.Calls.{Keeps, Later};
 ghost use Rattle.optimistic.specs.words.Kept.{calls_by, value_of, Since};
 ghost use Rattle.optimistic.specs.words.Told.{view, IsOf, HasForm};
+ghost use Rattle.optimistic.specs.tree.Alone.{IsDisturbedFrom, IsSeen};
 ghost use Rattle.optimistic.specs.tree.Reads.{IsPlace, IsLook};
 ghost use Rattle.optimistic.specs.tree.Trees.{IsTree};
 
 use crate::forms::names::{key_byte, where_word};
-use crate::tree::names::{may_go_on, pair_value, place_below};
+use crate::tree::names::{goes_on, pair_value, place_below};
 use crate::tree::place::{Look, Place};
 use crate::words::{Hand, Nodes, ROOT, Shape};
 use std::alloc::{AllocError, Global};
@@ -69,11 +70,12 @@ impl Tree {
         ensures since { Since (view hand.old).seen (view hand.new).seen }
         ensures place { IsPlace at (view hand.new) }
         ensures look { IsLook key result (view hand.new) }
+        ensures seen { IsSeen key at result (view hand.old) (view hand.new) }
     {
         let version = self.nodes.load(hand, at.node, at.form, 0);
         let byte = key_byte(key, at.level);
         let child = self.child(hand, at, key, byte);
-        let on = may_go_on(child, key);
+        let on = goes_on(child, key);
         if on {
             return Look::Down(place_below(child.first));
         }
@@ -99,10 +101,12 @@ impl Tree {
         ensures of { IsOf self.now.nodes.table.shared.table_id hand.new }
         ensures later { Later (view hand.old) (view hand.new) }
         ensures mine { (view hand.new).mine ≡ (view hand.old).mine }
+        ensures since { Since (view hand.old).seen (view hand.new).seen }
         ensures value { IfSome result (λ x. Keeps (view hand.old) (view hand.new) × (x ≡ value_of key (view hand.new).seen.log)) }
+        ensures alone { IfNone result (IsDisturbedFrom (view hand.old) (view hand.new)) }
     {
         let mut next = self.look(hand, TOP, key);
-        for _ in 0..9 {
+        for _depth in 0..9u64 {
             match next {
                 Look::Answer(value) => return Some(value),
                 Look::Down(at) => next = self.look(hand, at, key),
@@ -119,9 +123,11 @@ impl Tree {
         ensures of { IsOf self.now.nodes.table.shared.table_id hand.new }
         ensures later { Later (view hand.old) (view hand.new) }
         ensures mine { (view hand.new).mine ≡ (view hand.old).mine }
+        ensures since { Since (view hand.old).seen (view hand.new).seen }
         ensures value { IfSome result (λ x. Keeps (view hand.old) (view hand.new) × (x ≡ value_of key (view hand.new).seen.log)) }
+        ensures alone { IfNone result (IsDisturbedFrom (view hand.old) (view hand.new)) }
     {
-        for _ in 0..ATTEMPTS {
+        for _attempt in 0..ATTEMPTS {
             if let Some(value) = self.try_get(hand, key) {
                 return Some(value);
             }
@@ -136,6 +142,7 @@ impl Tree {
         ensures of { IsOf self.now.nodes.table.shared.table_id hand.new }
         ensures keeps { Keeps (view hand.old) (view hand.new) }
         ensures mine { (view hand.new).mine ≡ (view hand.old).mine }
+        ensures since { Since (view hand.old).seen (view hand.new).seen }
         ensures value { result ≡ value_of key (view hand.new).seen.log }
     {
         for _ in rt.forever() {

@@ -2,12 +2,14 @@
 //!
 //! As the next pair from a key on, it is found by some ways down. The last node of each tells of keys up to the one that was
 //! asked for: of those from one on that none has a value. The next way goes down to the key before that one.
-ghost use Rattle.std.specs.Prelude.{◌≡◌, ◌≢◌, ℕ, ◌<◌, ◌≤◌, ◌⊎◌, ◌+◌, true, IfSome, List};
+ghost use Rattle.std.specs.Prelude.{◌≡◌, ◌≢◌, ℕ, ◌<◌, ◌≤◌, ◌⊎◌, ◌+◌, true, IfNone, IfSome, List};
 ghost use Rattle.optimistic.specs.declared.words.rule.Entry.{Entry};
 ghost use Rattle.optimistic.specs.words.Calls.{Keeps, Later};
 ghost use Rattle.optimistic.specs.words.Kept.{Since};
 ghost use Rattle.optimistic.specs.words.Told.{view, IsOf, Looks};
-ghost use Rattle.optimistic.specs.tree.Nexts.{IsLast};
+ghost use Rattle.optimistic.specs.tree.Alone.{IsDisturbedFrom};
+ghost use Rattle.optimistic.specs.tree.Asked.{IsAsked, IsSought, sight_in};
+ghost use Rattle.optimistic.specs.tree.Nexts.{IsLast, IsNear};
 ghost use Rattle.optimistic.specs.tree.Reads.{IsPlace};
 ghost use Rattle.optimistic.specs.tree.Sights.{Shows, Knows, IsBack, IsBackSight, Stood};
 ghost use Rattle.optimistic.specs.tree.Trees.{IsTree};
@@ -19,7 +21,7 @@ use crate::forms::names::{key_byte, where_word};
 use crate::moves::Item;
 use crate::tree::back::{Back, back_of_item, byte_behind};
 use crate::tree::get::{ATTEMPTS, TOP, Tree};
-use crate::tree::next::{Sight, WAYS};
+use crate::tree::next::Sight;
 use crate::tree::place::Place;
 use crate::words::Hand;
 use std::hint::spin_loop;
@@ -41,6 +43,7 @@ impl Tree {
         ensures of { IsOf self.now.nodes.table.shared.table_id hand.new }
         ensures looks { Looks IsTree (view hand.old) (view hand.new) }
         ensures back { IsBack to result.from result.next }
+        ensures near { IsNear at.level to result.from }
         ensures knows { Knows result.from result.next (view hand.new) }
         ensures shows { Shows at result.from result.next (view hand.old) (view hand.new) }
     {
@@ -72,6 +75,7 @@ impl Tree {
         ensures of { IsOf self.now.nodes.table.shared.table_id hand.new }
         ensures looks { Looks IsTree (view hand.old) (view hand.new) }
         ensures sight { IfSome result (λ b. IsBackSight to b (view hand.new)) }
+        ensures asked { IsAsked to at (sight_in result) (view hand.old) (view hand.new) }
     {
         let version = self.nodes.load(hand, at.node, at.form, 0);
         let back = self.back_at(hand, at, to);
@@ -98,9 +102,10 @@ impl Tree {
         ensures of { IsOf self.now.nodes.table.shared.table_id hand.new }
         ensures looks { Looks IsTree (view hand.old) (view hand.new) }
         ensures sight { IfSome result (λ b. IsBackSight to b (view hand.new)) }
+        ensures sought { IsSought (sight_in result) (view hand.old) (view hand.new) }
     {
         let mut back = self.back_sight_at(hand, TOP, to);
-        for _ in 0..9 {
+        for _depth in 0..9u64 {
             let Some(seen) = back else {
                 return None;
             };
@@ -112,12 +117,13 @@ impl Tree {
         None
     }
 
-    /// The last pair up to a key, if no writer comes between, found by so many ways down and one more.
-    fn try_last(&self, hand: &mut Hand, to: u64, ways: u32) -> Option<Option<Pair>>
+    /// The last pair up to a key, if no writer comes between.
+    fn try_last(&self, hand: &mut Hand, to: u64) -> Option<Option<Pair>>
         requires of { IsOf self.now.nodes.table.shared.table_id hand.old }
         ensures of { IsOf self.now.nodes.table.shared.table_id hand.new }
         ensures looks { Looks IsTree (view hand.old) (view hand.new) }
         ensures last { IfSome result (λ r. Stood (λ log. IsLast log (to + 1) r) (view hand.old) (view hand.new)) }
+        ensures alone { IfNone result (IsDisturbedFrom (view hand.old) (view hand.new)) }
     {
         let Some(back) = self.back_sight(hand, to) else {
             return None;
@@ -129,10 +135,7 @@ impl Tree {
                 if back.from == 0 {
                     return self.confirm(hand, back.sight, None);
                 }
-                if ways == 0 {
-                    return None;
-                }
-                match self.try_last(hand, back.from - 1, ways - 1) {
+                match self.try_last(hand, back.from - 1) {
                     Some(last) => self.confirm(hand, back.sight, last),
                     None => None,
                 }
@@ -148,9 +151,10 @@ impl Tree {
         ensures mine { (view hand.new).mine ≡ (view hand.old).mine }
         ensures since { Since (view hand.old).seen (view hand.new).seen }
         ensures last { IfSome result (λ r. Keeps (view hand.old) (view hand.new) × Stood (λ log. IsLast log (to + 1) r) (view hand.old) (view hand.new)) }
+        ensures alone { IfNone result (IsDisturbedFrom (view hand.old) (view hand.new)) }
     {
-        for _ in 0..ATTEMPTS {
-            if let Some(last) = self.try_last(hand, to, WAYS) {
+        for _attempt in 0..ATTEMPTS {
+            if let Some(last) = self.try_last(hand, to) {
                 return Some(last);
             }
             spin_loop();

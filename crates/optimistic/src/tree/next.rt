@@ -3,11 +3,13 @@
 //! The way down to a key tells its value, or that no key up to some later one has one. That holds as long as the version stays
 //! of the node that told it. So the next pair is found by some ways down, and it is the next one at one moment if each of the
 //! nodes that told of the keys before it still has its version once the pair is known.
-ghost use Rattle.std.specs.Prelude.{◌≡◌, ◌≢◌, ℕ, ◌<◌, ◌≤◌, ◌⊎◌, ◌+◌, true, IfSome, List};
+ghost use Rattle.std.specs.Prelude.{◌≡◌, ◌≢◌, ℕ, ◌<◌, ◌≤◌, ◌⊎◌, ◌+◌, true, IfNone, IfSome, List};
 ghost use Rattle.optimistic.specs.declared.words.rule.Entry.{Entry};
 ghost use Rattle.optimistic.specs.words.Calls.{Keeps, Later};
 ghost use Rattle.optimistic.specs.words.Kept.{word_at, Since};
 ghost use Rattle.optimistic.specs.words.Told.{view, IsOf, Looks};
+ghost use Rattle.optimistic.specs.tree.Alone.{IsDated, IsDisturbedFrom};
+ghost use Rattle.optimistic.specs.tree.Asked.{IsAsked, IsSought};
 ghost use Rattle.optimistic.specs.tree.Nexts.{IsFirst};
 ghost use Rattle.optimistic.specs.tree.Reads.{IsPlace};
 ghost use Rattle.optimistic.specs.tree.Sights.{Shows, Knows, IsSight, Stood};
@@ -24,10 +26,6 @@ use crate::words::Hand;
 use std::hint::spin_loop;
 use std::sync::Wait;
 use std::thread::yield_now;
-
-/// How many ways down the next pair may take: one for each level up, and two for each level down, since no node but the root is empty;
-/// and some to spare.
-pub const WAYS: u32 = 32;
 
 /// What a node told at a version, which holds while it has that version.
 #[derive(Clone, Copy, Drop)]
@@ -85,6 +83,8 @@ impl Tree {
         ensures of { IsOf self.now.nodes.table.shared.table_id hand.new }
         ensures looks { Looks IsTree (view hand.old) (view hand.new) }
         ensures sight { IfSome result (λ s. IsSight s from (view hand.new)) }
+        ensures dated { IfSome result (λ s. IsDated s.at.node s.version (view hand.old).seen (view hand.new).seen) }
+        ensures asked { IsAsked from at result (view hand.old) (view hand.new) }
     {
         let version = self.nodes.load(hand, at.node, at.form, 0);
         let next = self.next_at(hand, at, from);
@@ -109,9 +109,11 @@ impl Tree {
         ensures of { IsOf self.now.nodes.table.shared.table_id hand.new }
         ensures looks { Looks IsTree (view hand.old) (view hand.new) }
         ensures sight { IfSome result (λ s. IsSight s from (view hand.new)) }
+        ensures dated { IfSome result (λ s. IsDated s.at.node s.version (view hand.old).seen (view hand.new).seen) }
+        ensures sought { IsSought result (view hand.old) (view hand.new) }
     {
         let mut sight = self.sight_at(hand, TOP, from);
-        for _ in 0..9 {
+        for _depth in 0..9u64 {
             let Some(seen) = sight else {
                 return None;
             };
@@ -135,6 +137,7 @@ impl Tree {
         ensures of { IsOf self.now.nodes.table.shared.table_id hand.new }
         ensures looks { Looks IsTree (view hand.old) (view hand.new) }
         ensures still { IfSome result (λ r. (r ≡ first) × (word_at (view hand.new).seen.words sight.at.node 0 ≡ sight.version)) }
+        ensures moved { IfNone result (word_at (view hand.new).seen.words sight.at.node 0 ≢ sight.version) }
     {
         let version = self.nodes.load(hand, sight.at.node, sight.at.form, 0);
         if version != sight.version {
@@ -143,12 +146,13 @@ impl Tree {
         Some(first)
     }
 
-    /// The first pair from a key on, if no writer comes between, found by so many ways down and one more.
-    fn try_next(&self, hand: &mut Hand, from: u64, ways: u32) -> Option<Option<Pair>>
+    /// The first pair from a key on, if no writer comes between.
+    fn try_next(&self, hand: &mut Hand, from: u64) -> Option<Option<Pair>>
         requires of { IsOf self.now.nodes.table.shared.table_id hand.old }
         ensures of { IsOf self.now.nodes.table.shared.table_id hand.new }
         ensures looks { Looks IsTree (view hand.old) (view hand.new) }
         ensures first { IfSome result (λ r. Stood (λ log. IsFirst log from r) (view hand.old) (view hand.new)) }
+        ensures alone { IfNone result (IsDisturbedFrom (view hand.old) (view hand.new)) }
     {
         let Some(sight) = self.sight(hand, from) else {
             return None;
@@ -160,10 +164,7 @@ impl Tree {
                 if last == u64::MAX {
                     return self.confirm(hand, sight, None);
                 }
-                if ways == 0 {
-                    return None;
-                }
-                match self.try_next(hand, last + 1, ways - 1) {
+                match self.try_next(hand, last + 1) {
                     Some(first) => self.confirm(hand, sight, first),
                     None => None,
                 }
@@ -179,9 +180,10 @@ impl Tree {
         ensures mine { (view hand.new).mine ≡ (view hand.old).mine }
         ensures since { Since (view hand.old).seen (view hand.new).seen }
         ensures first { IfSome result (λ r. Keeps (view hand.old) (view hand.new) × Stood (λ log. IsFirst log from r) (view hand.old) (view hand.new)) }
+        ensures alone { IfNone result (IsDisturbedFrom (view hand.old) (view hand.new)) }
     {
-        for _ in 0..ATTEMPTS {
-            if let Some(first) = self.try_next(hand, from, WAYS) {
+        for _attempt in 0..ATTEMPTS {
+            if let Some(first) = self.try_next(hand, from) {
                 return Some(first);
             }
             spin_loop();

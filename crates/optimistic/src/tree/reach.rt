@@ -1,8 +1,9 @@
 //! The way down to a key's last node.
-ghost use Rattle.std.specs.Prelude.{◌≡◌, ◌≢◌, ℕ, ◌<◌, ◌≤◌, IfSome};
+ghost use Rattle.std.specs.Prelude.{◌≡◌, ◌≢◌, ℕ, ◌<◌, ◌≤◌, IfNone, IfSome};
 ghost use Rattle.optimistic.specs.words.Calls.{Keeps};
 ghost use Rattle.optimistic.specs.words.Kept.{value_of, Since};
 ghost use Rattle.optimistic.specs.words.Told.{view, IsOf};
+ghost use Rattle.optimistic.specs.tree.Alone.{IsDisturbedFrom};
 ghost use Rattle.optimistic.specs.tree.Reads.{IsPlace};
 
 use crate::tree::get::{TOP, Tree};
@@ -28,11 +29,12 @@ impl Tree {
         ensures above { IfSome result (λ r. IfSome r.above (λ p. IsPlace p (view hand.new))) }
         ensures place { IfSome result (λ r. IsPlace r.at (view hand.new)) }
         ensures value { IfSome result (λ r. r.value ≡ value_of key (view hand.new).seen.log) }
+        ensures alone { IfNone result (IsDisturbedFrom (view hand.old) (view hand.new)) }
     {
         let mut above = None;
         let mut at = TOP;
         let mut next = self.look(hand, at, key);
-        for _ in 0..9 {
+        for _depth in 0..9u64 {
             match next {
                 Look::Answer(value) => return Some(End { above, at, value }),
                 Look::Down(below) => {

@@ -2,7 +2,7 @@
 //!
 //! Under one reading of its version, before all and after, a node tells of key after key, up to the first of which a node below it
 //! tells, or to the last that it covers. So they are told as they were at one moment.
-ghost use Rattle.std.specs.Prelude.{◌≡◌, ◌≢◌, ℕ, List, ◌+◌, ◌%◌, ◌<◌, ◌≤◌, ◌⊎◌, ◌++◌, length, map, take, drop, true, IfSome};
+ghost use Rattle.std.specs.Prelude.{◌≡◌, ◌≢◌, ℕ, List, ◌+◌, ◌%◌, ◌<◌, ◌≤◌, ◌⊎◌, ◌++◌, length, map, take, drop, true, IfNone, IfSome};
 ghost use Rattle.optimistic.specs.Layout.{byte_at, room};
 ghost use Rattle.optimistic.specs.declared.drain.nexts.Pair.{Pair};
 ghost use Rattle.optimistic.specs.declared.words.rule.Entry.{Entry};
@@ -11,11 +11,12 @@ ghost use Rattle.optimistic.specs.declared.words.rule.View.{View};
 ghost use Rattle.optimistic.specs.words.Calls.{Keeps, Later};
 ghost use Rattle.optimistic.specs.words.Kept.{Since};
 ghost use Rattle.optimistic.specs.words.Told.{view, IsOf, HasForm, Tells, Looks};
+ghost use Rattle.optimistic.specs.tree.Alone.{IsDated, IsDisturbedFrom};
 ghost use Rattle.optimistic.specs.tree.Drained.{IsDrained};
 ghost use Rattle.optimistic.specs.tree.Nexts.{IsNear};
 ghost use Rattle.optimistic.specs.tree.Reads.{Found, IsPlace};
-ghost use Rattle.optimistic.specs.tree.Runs.{behind, within, ChildMakes, BitHolds, KnowsBit, HasBytes, HasEntry, ShowsBit, ShowsRun, IsRun, WasTold};
-ghost use Rattle.optimistic.specs.tree.Sights.{Lacks, Only, IsWithin, Stood};
+ghost use Rattle.optimistic.specs.tree.Runs.{behind, within, Gives, ChildMakes, BitHolds, KnowsBit, HasBytes, HasEntry, ShowsBit, ShowsRun, IsRun, WasTold};
+ghost use Rattle.optimistic.specs.tree.Sights.{Lacks, Only, Holds, IsSight, IsWithin, Stood};
 ghost use Rattle.optimistic.specs.forms.Wide.{bit_in};
 ghost use Rattle.optimistic.specs.tree.Trails.{IsTrail, IsTurn};
 ghost use Rattle.optimistic.specs.tree.Trees.{IsTree};
@@ -27,6 +28,7 @@ use crate::forms::gaps::first_set;
 use crate::forms::names::{key_byte, leaf_key, where_word};
 use crate::moves::{Item, last_at, room_of};
 use crate::tree::get::{ATTEMPTS, Tree};
+use crate::tree::next::Sight;
 use crate::tree::place::{Child, Place};
 use crate::tree::trail::{LOOKS, Trail, Turn};
 use crate::words::Hand;
@@ -68,7 +70,7 @@ pub const BUFFER: usize = 64;
 /// The lesser of two numbers of places.
 #[inline(always)]
 pub fn fewer(a: usize, b: usize) -> usize
-    ensures { (result ≤ a) × (result ≤ b) }
+    ensures { (result ≤ a) × (result ≤ b) × ((result ≡ a) ⊎ (result ≡ b)) }
 {
     if a < b { a } else { b }
 }
@@ -220,6 +222,22 @@ fn run_of(at: Place, version: u64, part: Part, stop: u64, last: u64) -> Run
         count,
         turn,
     }
+}
+
+/// What a node told on the way to a key: up to another, which is no earlier one, that pair alone has a value, or none has.
+fn run_of_sight(sight: Sight, pair: Option<Pair>, end: u64, last: u64, out: &mut [Pair]) -> Run
+    requires { 0 < length out.old }
+    ensures same { (result.at ≡ sight.at) × (result.version ≡ sight.version) × (length out.new ≡ length out.old) }
+    ensures run { (from places : ℕ) (w : View) → from ≤ last → from ≤ end → 0 < places → IsSight sight from w → ((log : List Entry) → Holds log from sight.next → Gives log from end pair)
+        → IsRun result from last places (take result.count out.new) w × (from < behind last result.next) }
+{
+    let count = put_within(out, 0, pair, last);
+    let part = Part {
+        next: None,
+        count,
+        below: None,
+    };
+    run_of(sight.at, sight.version, part, lesser(last, end), last)
 }
 
 /// Whether a later key is next, or none.
@@ -471,6 +489,7 @@ impl Tree {
         ensures looks { Looks IsTree (view hand.old) (view hand.new) }
         ensures same { length out.new ≡ length out.old }
         ensures run { IfSome result (λ r. IsRun r from last places (take r.count out.new) (view hand.new)) }
+        ensures dated { IfSome result (λ r. IsDated r.at.node r.version (view hand.old).seen (view hand.new).seen) }
     {
         let version = self.nodes.load(hand, at.node, at.form, 0);
         let found = self.read(hand, at.node, at.form, 1);
@@ -507,13 +526,14 @@ impl Tree {
         ensures trail { IsTrail trail.now (view hand.new).seen }
         ensures same { length out.new ≡ length out.old }
         ensures run { IfSome result (λ r. IsRun r from last places (take r.count out.new) (view hand.new)) }
+        ensures dated { IfSome result (λ r. IsDated r.at.node r.version (view hand.old).seen (view hand.new).seen) }
     {
         let at = trail.last();
         self.look_run(hand, at, from, last, out, places)
     }
 
     /// What is told of the keys from one on by a node on the way to it. The trail leads to that which tells of the next key.
-    pub fn look_by(
+    fn look_by(
         &self,
         hand: &mut Hand,
         trail: &mut Trail,
@@ -531,6 +551,7 @@ impl Tree {
         ensures trail { IsTrail trail.new (view hand.new).seen }
         ensures same { length out.new ≡ length out.old }
         ensures run { IfSome result (λ r. IsRun r from last places (take r.count out.new) (view hand.new)) }
+        ensures dated { IfSome result (λ r. IsDated r.at.node r.version (view hand.old).seen (view hand.new).seen) }
         ensures later { IfSome result (λ r. from < behind last r.next) }
     {
         let mut looked = self.look_last(hand, trail, from, last, out, places);
@@ -553,6 +574,70 @@ impl Tree {
         None
     }
 
+    /// What the last node on the way from the root tells of a key, and of those behind it that have no value.
+    fn look_anew(
+        &self,
+        hand: &mut Hand,
+        from: u64,
+        last: u64,
+        out: &mut [Pair],
+        places: usize,
+    ) -> Option<Run>
+        requires of { IsOf self.now.nodes.table.shared.table_id hand.old }
+        requires order { from ≤ last }
+        requires room { (0 < places) × (places ≤ length out.old) }
+        ensures of { IsOf self.now.nodes.table.shared.table_id hand.new }
+        ensures looks { Looks IsTree (view hand.old) (view hand.new) }
+        ensures same { length out.new ≡ length out.old }
+        ensures run { IfSome result (λ r. IsRun r from last places (take r.count out.new) (view hand.new)) }
+        ensures dated { IfSome result (λ r. IsDated r.at.node r.version (view hand.old).seen (view hand.new).seen) }
+        ensures later { IfSome result (λ r. from < behind last r.next) }
+        ensures alone { IfNone result (IsDisturbedFrom (view hand.old) (view hand.new)) }
+    {
+        let Some(sight) = self.sight(hand, from) else {
+            return None;
+        };
+        match sight.next {
+            Next::Here(value) => {
+                let pair = Pair { key: from, value };
+                Some(run_of_sight(sight, Some(pair), from, last, out))
+            }
+            Next::Down(_) => None,
+            Next::After(end) => Some(run_of_sight(sight, None, end, last, out)),
+        }
+    }
+
+    /// What is told of the keys from one on by the nodes of a trail, or, where these tell nothing, by the way from the root, if no
+    /// writer comes between.
+    pub fn look_on(
+        &self,
+        hand: &mut Hand,
+        trail: &mut Trail,
+        from: u64,
+        last: u64,
+        out: &mut [Pair],
+        places: usize,
+    ) -> Option<Run>
+        requires of { IsOf self.now.nodes.table.shared.table_id hand.old }
+        requires trail { IsTrail trail.old (view hand.old).seen }
+        requires order { from ≤ last }
+        requires room { (0 < places) × (places ≤ length out.old) }
+        ensures of { IsOf self.now.nodes.table.shared.table_id hand.new }
+        ensures looks { Looks IsTree (view hand.old) (view hand.new) }
+        ensures trail { IsTrail trail.new (view hand.new).seen }
+        ensures same { length out.new ≡ length out.old }
+        ensures run { IfSome result (λ r. IsRun r from last places (take r.count out.new) (view hand.new)) }
+        ensures dated { IfSome result (λ r. IsDated r.at.node r.version (view hand.old).seen (view hand.new).seen) }
+        ensures later { IfSome result (λ r. from < behind last r.next) }
+        ensures alone { IfNone result (IsDisturbedFrom (view hand.old) (view hand.new)) }
+    {
+        if let Some(run) = self.look_by(hand, trail, from, last, out, places) {
+            return Some(run);
+        }
+        *trail = self.trail(hand);
+        self.look_anew(hand, from, last, out, places)
+    }
+
     /// What is told of the keys from one on, as it was at one moment, if no writer comes between.
     fn try_run(
         &self,
@@ -566,14 +651,15 @@ impl Tree {
         requires of { IsOf self.now.nodes.table.shared.table_id hand.old }
         requires trail { IsTrail trail.old (view hand.old).seen }
         requires order { from ≤ last }
-        requires room { places ≤ length out.old }
+        requires room { (0 < places) × (places ≤ length out.old) }
         ensures of { IsOf self.now.nodes.table.shared.table_id hand.new }
         ensures looks { Looks IsTree (view hand.old) (view hand.new) }
         ensures trail { IsTrail trail.new (view hand.new).seen }
         ensures same { length out.new ≡ length out.old }
         ensures told { IfSome result (λ r. WasTold r from last places (take r.count out.new) (view hand.old) (view hand.new)) }
+        ensures alone { IfNone result (IsDisturbedFrom (view hand.old) (view hand.new)) }
     {
-        let Some(run) = self.look_by(hand, trail, from, last, out, places) else {
+        let Some(run) = self.look_on(hand, trail, from, last, out, places) else {
             return None;
         };
         let version = self.nodes.load(hand, run.at.node, run.at.form, 0);
@@ -597,7 +683,7 @@ impl Tree {
         requires of { IsOf self.now.nodes.table.shared.table_id hand.old }
         requires trail { IsTrail trail.old (view hand.old).seen }
         requires order { from ≤ last }
-        requires room { places ≤ length out.old }
+        requires room { (0 < places) × (places ≤ length out.old) }
         ensures of { IsOf self.now.nodes.table.shared.table_id hand.new }
         ensures later { Later (view hand.old) (view hand.new) }
         ensures mine { (view hand.new).mine ≡ (view hand.old).mine }
@@ -606,8 +692,9 @@ impl Tree {
         ensures same { length out.new ≡ length out.old }
         ensures keeps { IfSome result (λ _. Keeps (view hand.old) (view hand.new)) }
         ensures told { IfSome result (λ r. WasTold r from last places (take r.count out.new) (view hand.old) (view hand.new)) }
+        ensures alone { IfNone result (IsDisturbedFrom (view hand.old) (view hand.new)) }
     {
-        for _ in 0..ATTEMPTS {
+        for _attempt in 0..ATTEMPTS {
             if let Some(run) = self.try_run(hand, trail, from, last, out, places) {
                 return Some(run);
             }
@@ -631,7 +718,7 @@ impl Tree {
         requires of { IsOf self.now.nodes.table.shared.table_id hand.old }
         requires trail { IsTrail trail.old (view hand.old).seen }
         requires order { from ≤ last }
-        requires room { places ≤ length out.old }
+        requires room { (0 < places) × (places ≤ length out.old) }
         ensures of { IsOf self.now.nodes.table.shared.table_id hand.new }
         ensures keeps { Keeps (view hand.old) (view hand.new) }
         ensures mine { (view hand.new).mine ≡ (view hand.old).mine }

@@ -2,16 +2,19 @@
 //!
 //! Each node that tells of some keys is kept in mind, with the version at which it did. If all of them have these versions after
 //! the last was read, then all that they told held at that moment.
-ghost use Rattle.std.specs.Prelude.{◌≡◌, ◌+◌, ◌<◌, ◌≤◌, ◌⊎◌, ℕ, [], true, length, take, IfOk, IfSome};
+ghost use Rattle.std.specs.Prelude.{◌≡◌, ◌+◌, ◌<◌, ◌≤◌, ◌⊎◌, ℕ, [], true, false, length, take, IfErr, IfOk, IfSome};
 ghost use Rattle.optimistic.specs.declared.drain.nexts.Pair.{Pair};
+ghost use Rattle.optimistic.specs.declared.words.rule.View.{View};
 ghost use Rattle.optimistic.specs.words.Calls.{Keeps, Later};
 ghost use Rattle.optimistic.specs.words.Kept.{Since};
 ghost use Rattle.optimistic.specs.words.Told.{view, IsOf, Looks};
+ghost use Rattle.optimistic.specs.declared.tree.whole.Unscanned.TheVariants.{Memory};
+ghost use Rattle.optimistic.specs.tree.Alone.{IsDisturbedFrom};
 ghost use Rattle.optimistic.specs.tree.Runs.{behind};
 ghost use Rattle.optimistic.specs.tree.Sights.{Stood};
 ghost use Rattle.optimistic.specs.tree.Trails.{IsTrail};
 ghost use Rattle.optimistic.specs.tree.Trees.{IsTree};
-ghost use Rattle.optimistic.specs.tree.Wholes.{AreSeen, IsSteadfast, HasMore, IsCollected, IsRange, Went, mark_of};
+ghost use Rattle.optimistic.specs.tree.Wholes.{AreSeen, AreDated, IsSteadfast, HasMoved, HasMore, IfAgain, IsCollected, IsRange, Went, mark_of};
 
 use crate::drain::Pair;
 use crate::tree::get::{ATTEMPTS, Tree};
@@ -73,7 +76,8 @@ fn are_same(a: Mark, b: Mark) -> bool
 
 /// Keeps a node in mind, unless it is the last that was.
 pub(crate) fn remember(marks: &mut Vec<Mark>, mark: Mark) -> Result<(), Unscanned>
-    ensures { IfOk result (λ _. HasMore marks.old.items mark marks.new.items) }
+    ensures more { IfOk result (λ _. HasMore marks.old.items mark marks.new.items) }
+    ensures memory { IfErr result (λ e. e ≡ Memory) }
 {
     let count = marks.len();
     if count > 0 {
@@ -104,7 +108,8 @@ impl Tree {
         requires of { IsOf self.now.nodes.table.shared.table_id hand.old }
         requires trail { IsTrail trail.old (view hand.old).seen }
         requires order { from ≤ last }
-        requires room { count ≤ length out.old }
+        requires room { count < length out.old }
+        requires some { 0 < length pairs.old }
         ensures of { IsOf self.now.nodes.table.shared.table_id hand.new }
         ensures looks { Looks IsTree (view hand.old) (view hand.new) }
         ensures trail { IsTrail trail.new (view hand.new).seen }
@@ -113,12 +118,17 @@ impl Tree {
         ensures buffer { length pairs.new ≡ length pairs.old }
         ensures collected { (start : ℕ) → IsCollected marks.old.items start from (take count out.old) (view hand.old)
             → IfOk result (λ r. IsCollected marks.new.items start (behind last r.next) (take r.count out.new) (view hand.new)) }
+        ensures dated { (v : View) → Since v.seen (view hand.old).seen → AreDated marks.old.items v (view hand.old) → IfOk result (λ _. AreDated marks.new.items v (view hand.new)) }
+        ensures alone { IfAgain result (IsDisturbedFrom (view hand.old) (view hand.new)) }
     {
         let places = fewer(out.len() - count, pairs.len());
-        let Some(run) = self.look_by(hand, trail, from, last, pairs, places) else {
+        let Some(run) = self.look_on(hand, trail, from, last, pairs, places) else {
             return Err(Unscanned::Again);
         };
-        remember(marks, mark_of(run))?;
+        match remember(marks, mark_of(run)) {
+            Ok(()) => {}
+            Err(error) => return Err(error),
+        }
         put_all(out, count, pairs, run.count);
         Ok(Reached {
             next: run.next,
@@ -138,11 +148,14 @@ impl Tree {
         requires of { IsOf self.now.nodes.table.shared.table_id hand.old }
         requires order { start ≤ last }
         requires none { marks.old.items ≡ [] }
+        requires room { 0 < length out.old }
         ensures of { IsOf self.now.nodes.table.shared.table_id hand.new }
         ensures looks { Looks IsTree (view hand.old) (view hand.new) }
         ensures same { length out.new ≡ length out.old }
         ensures collected { IfOk result (λ n. (n ≤ length out.old) × ((next : ℕ) × IsCollected marks.new.items start next (take n out.new) (view hand.new)
             × ((next ≡ last + 1) ⊎ ((next ≤ last + 1) × (n ≡ length out.old))))) }
+        ensures dated { IfOk result (λ _. AreDated marks.new.items (view hand.old) (view hand.new)) }
+        ensures alone { IfAgain result (IsDisturbedFrom (view hand.old) (view hand.new)) }
     {
         let mut trail = self.trail(hand);
         let mut pairs = [Pair { key: 0, value: 0 }; BUFFER];
@@ -156,7 +169,7 @@ impl Tree {
             if reached.count == out.len() {
                 return Ok(reached.count);
             }
-            reached = self.collect_one(
+            let more = self.collect_one(
                 hand,
                 &mut trail,
                 from,
@@ -165,7 +178,11 @@ impl Tree {
                 &mut pairs,
                 out,
                 reached.count,
-            )?;
+            );
+            match more {
+                Ok(next) => reached = next,
+                Err(error) => return Err(error),
+            }
         }
     }
 
@@ -176,6 +193,7 @@ impl Tree {
         ensures of { IsOf self.now.nodes.table.shared.table_id hand.new }
         ensures went { Went (view hand.old) (view hand.new) }
         ensures still { result ≡ true → IsSteadfast marks.now (view hand.old).seen }
+        ensures moved { result ≡ false → HasMoved marks.now (view hand.new) }
     {
         for i in 0..marks.len() {
             let mark = marks[i];
@@ -206,6 +224,7 @@ impl Tree {
         ensures same { length out.new ≡ length out.old }
         ensures whole { IfOk result (λ n. Stood (λ log. IsRange log start (last + 1) (length out.old) (take n out.new)) (view hand.old) (view hand.new)) }
         ensures count { IfOk result (λ n. n ≤ length out.new) }
+        ensures alone { IfAgain result (IsDisturbedFrom (view hand.old) (view hand.new)) }
     {
         marks.clear();
         let count = self.collect(hand, start, last, marks, out)?;
@@ -237,8 +256,9 @@ impl Tree {
         ensures keeps { IfOk result (λ _. Keeps (view hand.old) (view hand.new)) }
         ensures whole { IfOk result (λ n. Stood (λ log. IsRange log start (last + 1) (length out.old) (take n out.new)) (view hand.old) (view hand.new)) }
         ensures count { IfOk result (λ n. n ≤ length out.new) }
+        ensures alone { IfAgain result (IsDisturbedFrom (view hand.old) (view hand.new)) }
     {
-        for _ in 0..ATTEMPTS {
+        for _attempt in 0..ATTEMPTS {
             match self.try_whole(hand, start, last, marks, out) {
                 Ok(count) => return Ok(count),
                 Err(Unscanned::Again) => spin_loop(),

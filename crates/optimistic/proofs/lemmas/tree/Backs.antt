@@ -25,7 +25,7 @@ use Rattle.optimistic.proofs.lemmas.tree.Reading.{agrees_from, agrees_to}
 -- what is told from a key on goes up to that key
 pub placed_reaches : (to : ℕ) (next : Next) → IsPlaced to next → Reaches to to next
 placed_reaches to (Here x) p = refl
-placed_reaches to (Down q) p = tt
+placed_reaches to (Down q) p = refl
 placed_reaches to (After last) p = p
 
 -- what a child that is there tells of the keys from one on that are near the key, and what it tells that there is none, of a node that was

@@ -346,4 +346,5 @@ module _ (B C : List Block) (n m form level g c byte f x key val : ℕ) (log : L
         | inr pn ↦ let e' = like B C p (others p pn pm) in subst (λ (z : ℕ → ℕ). IsForm (form_of (z 1)) z) (sym e') (t.forms p (λ z. some (others p pn pm 1 ∙ z)))
       ]
     ];
+    top = is_split.others 16 (λ (q : 16 ≡ m). let z : 32 ≡ 0 = sym t.top ∙ (ap (where_at B) q ∙ blank) in omega arith) ∙ t.top;
   }

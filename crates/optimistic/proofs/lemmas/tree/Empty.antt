@@ -50,4 +50,5 @@ module _ (count : ℕ) (wide : 536 ≤ count) where
     forms = λ n some. dite (ℕ_discrete n 16)
         (λ (e : n ≡ 16). subst (λ (z : ℕ). IsForm (form_of (where_at (first_calm count) z)) (calm_at (first_calm count) z)) (sym e) (subst (λ (z : ℕ). IsForm (form_of z) (calm_at (first_calm count) 16)) (sym where_root) (wide_form (calm_at (first_calm count) 16))))
         (λ ne. absurd (some (calm_else 16 n (first_words count) [] 1 (λ q. ne (sym q)))));
+    top = where_root;
   }

@@ -275,4 +275,5 @@ may_drop m v own in_m blank was b since held sound =
           sound.means.nodes;
       forms = λ p some. dite (ℕ_discrete p m) (λ (q : p ≡ m). absurd (some (ap (where_at C) q ∙ new)))
           (λ ne. subst (λ (w : ℕ → ℕ). IsForm (form_of (w 1)) w) (sym (path p ne)) (sound.means.forms p (λ z. some (ap (λ (w : ℕ → ℕ). w 1) (path p ne) ∙ z))));
+      top = dite (ℕ_discrete 16 m) (λ (q : 16 ≡ m). ap (where_at C) q ∙ (new ∙ (sym old ∙ (ap (where_at B) (sym q) ∙ sound.means.top)))) (λ ne. ap (λ (w : ℕ → ℕ). w 1) (path 16 ne) ∙ sound.means.top);
     }

@@ -148,4 +148,5 @@ module _ (B : List Block) (words : List ℕ) (log log' : List Entry) (n form lev
             (λ (q : p ≡ n). subst (λ (z : ℕ). IsForm (form_of (where_at C z)) (calm_at C z)) (sym q)
             (subst (λ (g : ℕ → ℕ). IsForm (form_of (g 1)) g) (sym here_path) (shape_is form level key some low deep (word_at words n) f' is' same' roomy became.form_stays)))
             (λ ne. subst (λ (g : ℕ → ℕ). IsForm (form_of (g 1)) g) (sym (else_path p ne)) (t.forms p (λ z. nz (calm_else n p words B 1 (λ q. ne (sym q)) ∙ z))));
+        top = wheres 16 ∙ t.top;
       }

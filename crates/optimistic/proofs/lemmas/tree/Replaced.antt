@@ -166,6 +166,16 @@ module _ (B C : List Block) (a n key f d : ℕ) (log : List Entry) (t : IsTree B
 pub like : (B C : List Block) (p : ℕ) → ((j : ℕ) → calm_at C p j ≡ calm_at B p j) → calm_at C p ≡ calm_at B p
 like B C p e = λ i j. e j i
 
+-- the root hangs below no node
+module _ (B : List Block) (a n key f d : ℕ) (log : List Entry) (t : IsTree B log) (over : IsOver B a n key f d) where
+  pub not_top : 16 ≢ n
+  not_top q =
+      let link = t.nodes.linked a key (over.covers, over.on) in
+      let at_n : second_at B a key ≡ 32 = sym link.0 ∙ (ap (where_at B) (over.names ∙ sym q) ∙ t.top) in
+      let l : depth (where_at B a) < depth (second_at B a key) = link.1 in
+      let z : depth (second_at B a key) ≡ 0 = ap depth at_n in
+      omega arith
+
 module _ (B C : List Block) (a n m key f g d : ℕ) (value : Option ℕ) (log : List Entry) (t : IsTree B log) (r : Replaces B C a n m key f g d value) where
   covers_same : (k : ℕ) → stands (where_of g d key) k ≡ stands (where_of f d key) k
   covers_same k = where_covers g d key k r.new_some r.new_low r.over.depth_low ∙ sym (where_covers f d key k r.over.form_some r.over.form_low r.over.depth_low)
@@ -233,6 +243,7 @@ module _ (B C : List Block) (a n m key f g d : ℕ) (value : Option ℕ) (log : 
         ]
       ]
     ];
+    top = is_replaced.others 16 (not_top B a n key f d log t r.over) (λ (q : 16 ≡ m). let z : 32 ≡ 0 = sym t.top ∙ (ap (where_at B) q ∙ r.blank) in omega arith) ∙ t.top;
   }
 
 module _ (B C : List Block) (a n key f d byte c x : ℕ) (log : List Entry) (t : IsTree B log) (r : Lifts B C a n key f d byte c x) where
@@ -295,4 +306,5 @@ module _ (B C : List Block) (a n key f d byte c x : ℕ) (log : List Entry) (t :
         | inr pa ↦ let w = like B C p (r.others p pa pn) in subst (λ (z : ℕ → ℕ). IsForm (form_of (z 1)) z) (sym w) (t.forms p (λ z. some (r.others p pa pn 1 ∙ z)))
       ]
     ];
+    top = is_lifted.others 16 (not_top B a n key f d log t r.over) ∙ t.top;
   }

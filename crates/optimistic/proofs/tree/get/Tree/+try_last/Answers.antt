@@ -6,6 +6,8 @@ use Rattle.optimistic.specs.words.Kept.{word_at, value_of}
 use Rattle.optimistic.specs.tree.Drained.{pair_of}
 use Rattle.optimistic.specs.tree.Nexts.{IsLast, UpTo}
 use Rattle.optimistic.specs.tree.Sights.{Holds, Reaches}
+use Rattle.optimistic.proofs.lemmas.tree.Alone.{sought_down, sought_moved, none_map, disturbed_in}
+use Rattle.optimistic.proofs.lemmas.words.Moments.{since_refl, since_trans}
 use Rattle.optimistic.proofs.lemmas.tree.Backs.{last_here, last_none, last_before}
 use Rattle.optimistic.proofs.lemmas.tree.Reading.{looks_trans}
 use Rattle.optimistic.proofs.lemmas.tree.Setting.{place_since}
@@ -76,3 +78,29 @@ returns-in-Some-try_last-clause-last t c =
 
 pub returns-in-None-clause-looks : goal.returns-in-None-clause-looks
 returns-in-None-clause-looks t c = looks_trans _ _ _ c.back_sight.ensures.looks c.try_last.ensures.looks
+
+pub returns-then-back-eq0-clause-looks : goal.returns-then-back-eq0-clause-looks
+returns-then-back-eq0-clause-looks t c = looks_trans _ _ _ c.back_sight.ensures.looks c.confirm-then-back-eq0.ensures.looks
+
+pub returns-then-back-eq0-clause-alone : goal.returns-then-back-eq0-clause-alone
+returns-then-back-eq0-clause-alone t c = none_map c.confirm-then-back-eq0.result _ _ (sought_moved c.in-Some.back.sight c.args.hand.now.me.0 c.back_sight.new.hand.me.0 c.confirm-then-back-eq0.new.hand.me.0 c.in-Some.ensures.sought c.confirm-then-back-eq0.ensures.looks.since) c.confirm-then-back-eq0.ensures.moved
+
+pub returns-in-Here-clause-alone : goal.returns-in-Here-clause-alone
+returns-in-Here-clause-alone t c = none_map c.confirm.result _ _ (sought_moved c.in-Some.back.sight c.args.hand.now.me.0 c.back_sight.new.hand.me.0 c.confirm.new.hand.me.0 c.in-Some.ensures.sought c.confirm.ensures.looks.since) c.confirm.ensures.moved
+
+pub returns-in-Down-clause-alone : goal.returns-in-Down-clause-alone
+returns-in-Down-clause-alone t c = sought_down c.in-Some.back.sight c.in-Down.field-0 c.args.hand.now.me.0 c.back_sight.new.hand.me.0 c.in-Down.is c.in-Some.ensures.sought
+
+pub returns-in-Some-try_last-clause-alone : goal.returns-in-Some-try_last-clause-alone
+returns-in-Some-try_last-clause-alone t c =
+    let u = c.back_sight.new.hand.me.0 in
+    let x = c.try_last.new.hand.me.0 in
+    let w = c.confirm-in-Some-try_last.new.hand.me.0 in
+    none_map c.confirm-in-Some-try_last.result _ _
+    (sought_moved c.in-Some.back.sight c.args.hand.now.me.0 u w c.in-Some.ensures.sought (since_trans u.seen x.seen w.seen c.try_last.ensures.looks.since c.confirm-in-Some-try_last.ensures.looks.since)) c.confirm-in-Some-try_last.ensures.moved
+
+pub returns-in-None-clause-alone : goal.returns-in-None-clause-alone
+returns-in-None-clause-alone t c =
+    let u = c.back_sight.new.hand.me.0 in
+    let x = c.try_last.new.hand.me.0 in
+    disturbed_in c.args.hand.now.me.0.seen u.seen x.seen x.seen c.back_sight.ensures.looks.since c.in-None.ensures.alone (since_refl x.seen)

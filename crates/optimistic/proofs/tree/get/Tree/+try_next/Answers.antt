@@ -6,6 +6,8 @@ use Rattle.optimistic.specs.words.Kept.{word_at}
 use Rattle.optimistic.specs.tree.Drained.{pair_of}
 use Rattle.optimistic.specs.tree.Nexts.{IsFirst}
 use Rattle.optimistic.specs.tree.Sights.{Holds}
+use Rattle.optimistic.proofs.lemmas.tree.Alone.{sought_down, sought_moved, none_map, disturbed_in}
+use Rattle.optimistic.proofs.lemmas.words.Moments.{since_refl, since_trans}
 use Rattle.optimistic.proofs.lemmas.tree.Reading.{looks_trans}
 use Rattle.optimistic.proofs.lemmas.tree.Setting.{place_since}
 use Rattle.optimistic.proofs.lemmas.tree.Sights.{confirmed, stood_from, stood_now, stood_after, first_here, first_none, first_after}
@@ -67,3 +69,29 @@ returns-in-Some-try_next-clause-first t c =
 
 pub returns-in-None-clause-looks : goal.returns-in-None-clause-looks
 returns-in-None-clause-looks t c = looks_trans _ _ _ c.sight.ensures.looks c.try_next.ensures.looks
+
+pub returns-then-last-clause-looks : goal.returns-then-last-clause-looks
+returns-then-last-clause-looks t c = looks_trans _ _ _ c.sight.ensures.looks c.confirm-then-last.ensures.looks
+
+pub returns-then-last-clause-alone : goal.returns-then-last-clause-alone
+returns-then-last-clause-alone t c = none_map c.confirm-then-last.result _ _ (sought_moved c.in-Some.sight c.args.hand.now.me.0 c.sight.new.hand.me.0 c.confirm-then-last.new.hand.me.0 c.in-Some.ensures.sought c.confirm-then-last.ensures.looks.since) c.confirm-then-last.ensures.moved
+
+pub returns-in-Here-clause-alone : goal.returns-in-Here-clause-alone
+returns-in-Here-clause-alone t c = none_map c.confirm.result _ _ (sought_moved c.in-Some.sight c.args.hand.now.me.0 c.sight.new.hand.me.0 c.confirm.new.hand.me.0 c.in-Some.ensures.sought c.confirm.ensures.looks.since) c.confirm.ensures.moved
+
+pub returns-in-Down-clause-alone : goal.returns-in-Down-clause-alone
+returns-in-Down-clause-alone t c = sought_down c.in-Some.sight c.in-Down.field-0 c.args.hand.now.me.0 c.sight.new.hand.me.0 c.in-Down.is c.in-Some.ensures.sought
+
+pub returns-in-Some-try_next-clause-alone : goal.returns-in-Some-try_next-clause-alone
+returns-in-Some-try_next-clause-alone t c =
+    let u = c.sight.new.hand.me.0 in
+    let x = c.try_next.new.hand.me.0 in
+    let w = c.confirm-in-Some-try_next.new.hand.me.0 in
+    none_map c.confirm-in-Some-try_next.result _ _
+    (sought_moved c.in-Some.sight c.args.hand.now.me.0 u w c.in-Some.ensures.sought (since_trans u.seen x.seen w.seen c.try_next.ensures.looks.since c.confirm-in-Some-try_next.ensures.looks.since)) c.confirm-in-Some-try_next.ensures.moved
+
+pub returns-in-None-clause-alone : goal.returns-in-None-clause-alone
+returns-in-None-clause-alone t c =
+    let u = c.sight.new.hand.me.0 in
+    let x = c.try_next.new.hand.me.0 in
+    disturbed_in c.args.hand.now.me.0.seen u.seen x.seen x.seen c.sight.ensures.looks.since c.in-None.ensures.alone (since_refl x.seen)

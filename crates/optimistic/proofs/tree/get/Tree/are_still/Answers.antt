@@ -1,4 +1,4 @@
-use Rattle.std.proofs.Common.{◌≡◌, ℕ, ◌<◌, get_or, length, rules, ap, sym, ◌∙◌, subst, inl, inr, arith}
+use Rattle.std.proofs.Common.{◌≡◌, ◌≢◌, ℕ, ◌<◌, get_or, length, rules, ap, sym, ◌∙◌, subst, inl, inr, arith}
 use Rattle.std.proofs.lemmas.Bool.{cases_lt}
 use Rattle.std.proofs.lemmas.List.{get_or_default}
 use Rattle.std.proofs.lemmas.List.Elements.{All-contains_itself}
@@ -53,3 +53,10 @@ loop-i-preserved c =
             subst (λ (z : Mark). word_at v.seen.words z.node 0 ≡ z.version) (sym is) here
       ],
     )
+
+pub returns-then-version-mark-clause-moved : goal.returns-then-version-mark-clause-moved
+returns-then-version-mark-clause-moved c _ =
+    let m = get_or c.args.marks.now c.loop-i.i none in
+    let low : c.loop-i.i < length c.args.marks.now = omega arith in
+    let ne : c.load-version.result ≢ m.version = search rules in
+    (m, All-contains_itself c.args.marks.now c.loop-i.i none low, λ e. ne (c.load-version.ensures.found ∙ e))

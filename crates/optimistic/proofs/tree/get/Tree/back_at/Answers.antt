@@ -2,7 +2,7 @@ use Rattle.std.proofs.Common.{◌≡◌, ◌≢◌, ℕ, ◌+◌, ◌-◌, ◌*�
 use Rattle.optimistic.specs.Layout.{prefix_of, byte_at}
 use Rattle.optimistic.specs.tree.Reads.{Found}
 use Rattle.optimistic.specs.tree.Sights.{Lacks}
-use Rattle.optimistic.proofs.lemmas.drain.Keys.{reaches, precedes}
+use Rattle.optimistic.proofs.lemmas.drain.Keys.{reaches, precedes, near_less, starts}
 use Rattle.optimistic.proofs.lemmas.tree.Backs.{shows_back_child, shows_back_gap}
 use Rattle.optimistic.proofs.lemmas.tree.Reading.{looks_trans}
 use Rattle.optimistic.proofs.lemmas.tree.Setting.{place_since}
@@ -73,3 +73,12 @@ returns-clause-shows c =
       | inl same ↦ inl (same ∙ e)
       | inr far ↦ inr far
     ]) c.first_key-from.ensures stop
+
+pub returns-then-some-clause-near : goal.returns-then-some-clause-near
+returns-then-some-clause-near c = (near_less c.args.at.level c.args.to c.back_of_item.result.from c.requires.at.level c.back_of_item.ensures.near).0
+
+pub returns-clause-near : goal.returns-clause-near
+returns-clause-near c =
+    let low = c.byte_behind-least.ensures.0 in
+    let e = c.key_byte-byte.ensures.byte in
+    (starts c.args.to c.args.at.level c.byte_behind-least.result c.first_key-from.result c.requires.at.level (omega (arith, low, e)) c.first_key-from.ensures).0

@@ -17,6 +17,6 @@ returns-clause-collected c to col =
     let v = c.args.hand.now.me.0 in
     let w = c.back_look_by.new.hand.me.0 in
     let new = c.remember.new.marks.items in
-    let more : HasMore old (mark_of r) new = subst (λ (m : Mark). HasMore old m new) c.mark_of.ensures c.in_ok-remember.ensures in
+    let more : HasMore old (mark_of r) new = subst (λ (m : Mark). HasMore old m new) c.mark_of.ensures c.in_ok-remember.ensures.more in
     subst (λ (l : List Pair). IsCollectedBack new (lowest first r.next) to l w) (sym c.put_all.ensures.pairs)
     (collected_back_more old new to from first c.fewer-places.result (take n c.args.out.now) (take r.count c.back_look_by.new.out) v w r col c.back_look_by.ensures.looks.since c.in-Some.ensures.run more)

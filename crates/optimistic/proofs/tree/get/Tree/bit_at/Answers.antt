@@ -106,3 +106,6 @@ returns-in-Told-clause-shows c a l has =
     let next = next_key (prefix_of from c.args.at.level) to (2 ^ (56 - 8 * c.args.at.level)) gap first c.last_key-gap.ensures c.first_key-first.ensures (omega (arith, low, apart)) in
     bit_behind c.args.at from a w c.requires.at.level first gap c.in-Told.pair c.in-Told.end none some next (starts from c.args.at.level to first c.requires.at.level (omega (arith, small)) c.first_key-first.ensures).0
     (reaches from c.args.at.level (to - 1) gap c.requires.at.level c.last_key-gap.ensures up) c.in-Told.ensures.knows
+
+pub returns-then-to-byte-clause-since : goal.returns-then-to-byte-clause-since
+returns-then-to-byte-clause-since c = since_trans c.args.hand.now.me.0.seen c.byte_from-to.new.hand.me.0.seen c.bit_here.new.hand.me.0.seen c.byte_from-to.ensures.since c.bit_here.ensures.looks.since

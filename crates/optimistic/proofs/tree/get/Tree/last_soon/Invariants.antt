@@ -1,8 +1,10 @@
-use Rattle.std.specs.Prelude.{◌≡◌}
+use Rattle.std.specs.Prelude.{◌≡◌, ◌<◌}
 use Rattle.optimistic.specs.words.Calls.{Later}
 use Rattle.optimistic.specs.words.Kept.{Since}
 use Rattle.optimistic.specs.words.Told.{IsOf}
+use Rattle.optimistic.specs.tree.Alone.{IsDisturbedFrom}
 use Rattle.optimistic.proofs.tree.get.Tree.last_soon.Given as goal
 
-abbrev pub invariant-loop : goal.invariant-loop
-invariant-loop l = IsOf l.fn.self.nodes.table.shared.table_id l.hand × Later l.initial.hand.me.0 l.hand.me.0 × (l.hand.me.0.mine ≡ l.initial.hand.me.0.mine) × Since l.initial.hand.me.0.seen l.hand.me.0.seen
+abbrev pub invariant-loop-attempt : goal.invariant-loop-attempt
+invariant-loop-attempt l =
+    IsOf l.fn.self.nodes.table.shared.table_id l.hand × Later l.fn.hand.me.0 l.hand.me.0 × (l.hand.me.0.mine ≡ l.fn.hand.me.0.mine) × Since l.fn.hand.me.0.seen l.hand.me.0.seen × (0 < l._attempt → IsDisturbedFrom l.fn.hand.me.0 l.hand.me.0)

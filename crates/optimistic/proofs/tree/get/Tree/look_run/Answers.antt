@@ -1,10 +1,13 @@
 use Rattle.std.proofs.Common.{◌≡◌, ◌≢◌, ℕ, ◌%◌, ◌≤◌, take, rules, sym, ◌∙◌, subst, inl, inr, arith}
 use Rattle.optimistic.specs.Layout.{where_of}
+use Rattle.optimistic.specs.declared.tree.place.Place.{Place}
 use Rattle.optimistic.specs.words.Told.{Looks}
+use Rattle.optimistic.specs.tree.Alone.{IsDated}
 use Rattle.optimistic.specs.tree.Reads.{Steady}
 use Rattle.optimistic.specs.tree.Runs.{behind, ShowsRun, IsRun}
 use Rattle.optimistic.specs.tree.Trees.{IsTree}
 use Rattle.optimistic.proofs.lemmas.drain.Keys.{between, reaches}
+use Rattle.optimistic.proofs.lemmas.tree.Alone.{dated}
 use Rattle.optimistic.proofs.lemmas.tree.Reading.{looks_trans}
 use Rattle.optimistic.proofs.lemmas.tree.Runs.{run_there, run_made}
 use Rattle.optimistic.proofs.lemmas.tree.Setting.{place_since}
@@ -78,3 +81,16 @@ returns-clause-run c =
     (run_there record { at = at; version = c.load-version.result; next = r.next; count = part.count; turn = r.turn } from last c.args.places pairs a u w
     (place_since at c.args.hand.now.me.0 a c.load-version.ensures.looks.since c.requires.at) c.load-version.ensures.found even c.read-found.ensures.looks later until covers shows
     (e.turn w c.run_in-part.ensures.below) c.run_in-part.ensures.count order (e.inside c.run_in-part.ensures.order.1)))
+
+pub returns-clause-dated : goal.returns-clause-dated
+returns-clause-dated c =
+    let at = c.args.at in
+    let v = c.args.hand.now.me.0 in
+    let a = c.load-version.new.hand.me.0 in
+    let u = c.read-found.new.hand.me.0 in
+    let x = c.bytes_there-bytes.new.hand.me.0 in
+    let w = c.run_in-part.new.hand.me.0 in
+    let e = c.run_of.ensures in
+    let until = since_trans a.seen u.seen w.seen c.read-found.ensures.looks.since (since_trans u.seen x.seen w.seen c.bytes_there-bytes.ensures.since c.run_in-part.ensures.since) in
+    subst (λ (z : Place × ℕ). IsDated z.0.node z.1 v.seen w.seen) (λ i. (sym e.same.0 i, sym e.same.1 i))
+    (dated at.node at.form c.load-version.result v.seen a w.seen c.requires.at.some c.requires.at.form c.load-version.ensures.at c.load-version.ensures.looks.since until c.load-version.ensures.found)

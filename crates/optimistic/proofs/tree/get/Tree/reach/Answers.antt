@@ -1,25 +1,46 @@
-use Rattle.std.proofs.Common.{◌∙◌}
+use Rattle.std.proofs.Common.{◌∙◌, subst, arith}
+use Rattle.optimistic.specs.declared.tree.place.Look.{Look}
+use Rattle.optimistic.specs.tree.Alone.{IsFollowed}
+use Rattle.optimistic.proofs.lemmas.tree.Alone.{followed_first, followed_next, followed_again, followed_ends}
 use Rattle.optimistic.proofs.lemmas.words.Chains.{later_keeps}
 use Rattle.optimistic.proofs.lemmas.words.Moments.{since_trans}
 use Rattle.optimistic.proofs.lemmas.tree.Setting.{place_since}
 use Rattle.optimistic.proofs.tree.get.Tree.reach.Goals as goal
 
-pub loop-preserved : goal.loop-preserved
-loop-preserved c = (
-  c.look-next-in-Down.ensures.of,
-  later_keeps c.look-next.new.hand.me.0 c.loop.hand.me.0 c.look-next-in-Down.new.hand.me.0 c.loop.invariant.1.0 c.look-next-in-Down.ensures.keeps,
-  c.look-next-in-Down.ensures.mine ∙ c.loop.invariant.2,
-  place_since c.loop.at c.loop.hand.me.0 c.look-next-in-Down.new.hand.me.0 c.look-next-in-Down.ensures.since c.loop.invariant.4,
-  c.look-next-in-Down.ensures.place,
-  c.look-next-in-Down.ensures.look,
-  since_trans c.look-next.new.hand.me.0.seen c.loop.hand.me.0.seen c.look-next-in-Down.new.hand.me.0.seen c.loop.invariant.6 c.look-next-in-Down.ensures.since,
+pub loop-depth-init : goal.loop-depth-init
+loop-depth-init c = (
+  c.look-next.ensures.of,
+  c.look-next.ensures.keeps,
+  c.look-next.ensures.mine,
+  tt,
+  c.look-next.ensures.place,
+  c.look-next.ensures.look,
+  c.look-next.ensures.since,
+  followed_first c.args.key c.look-next.result c.args.hand.now.me.0 c.look-next.new.hand.me.0 c.ranges.key.fits c.look-next.ensures.seen,
 )
 
-pub returns-in-Answer-clause-since : goal.returns-in-Answer-clause-since
-returns-in-Answer-clause-since c = since_trans c.args.hand.now.me.0.seen c.look-next.new.hand.me.0.seen c.loop.hand.me.0.seen c.look-next.ensures.since c.loop.invariant.6
+pub loop-depth-preserved : goal.loop-depth-preserved
+loop-depth-preserved c =
+    let v = c.args.hand.now.me.0 in
+    let u = c.loop-depth.hand.me.0 in
+    let w = c.look-next-in-Down.new.hand.me.0 in
+    let i = c.loop-depth.invariant in
+    let e = c.look-next-in-Down.ensures in (
+      e.of,
+      later_keeps v u w i.1.0 e.keeps,
+      e.mine ∙ i.2,
+      place_since c.loop-depth.at u w e.since i.4,
+      e.place,
+      e.look,
+      since_trans v.seen u.seen w.seen i.6 e.since,
+      followed_next c.args.key c.loop-depth._depth c.in-Down.below c.look-next-in-Down.result v u w (omega arith) (subst (λ (l : Look). IsFollowed c.args.key c.loop-depth._depth l v u) c.in-Down.is i.7) e.seen,
+    )
 
-pub returns-in-Again-clause-since : goal.returns-in-Again-clause-since
-returns-in-Again-clause-since c = since_trans c.args.hand.now.me.0.seen c.look-next.new.hand.me.0.seen c.loop.hand.me.0.seen c.look-next.ensures.since c.loop.invariant.6
+pub returns-in-Again-clause-alone : goal.returns-in-Again-clause-alone
+returns-in-Again-clause-alone c =
+    let v = c.args.hand.now.me.0 in
+    let u = c.loop-depth.hand.me.0 in
+    followed_again c.args.key c.loop-depth._depth v u (subst (λ (l : Look). IsFollowed c.args.key c.loop-depth._depth l v u) c.in-Again.is c.loop-depth.invariant.7)
 
-pub returns-clause-since : goal.returns-clause-since
-returns-clause-since c = since_trans c.args.hand.now.me.0.seen c.look-next.new.hand.me.0.seen c.loop.hand.me.0.seen c.look-next.ensures.since c.loop.invariant.6
+pub returns-clause-alone : goal.returns-clause-alone
+returns-clause-alone c = followed_ends c.args.key c.loop-depth._depth c.loop-depth.next c.args.hand.now.me.0 c.loop-depth.hand.me.0 (omega arith) c.loop-depth.invariant.5 c.loop-depth.invariant.7

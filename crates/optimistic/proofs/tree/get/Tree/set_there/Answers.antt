@@ -6,11 +6,13 @@ use Rattle.optimistic.specs.tree.Levels.{pair_value}
 use Rattle.optimistic.specs.tree.Reads.{Found}
 use Rattle.optimistic.specs.tree.Sets.{Allows}
 use Rattle.optimistic.specs.tree.Takes.{HasWritten}
+use Rattle.optimistic.specs.tree.Trees.{IsTree}
 use Rattle.optimistic.proofs.lemmas.words.Moments.{width_some}
 use Rattle.optimistic.proofs.lemmas.tree.Reading.{looks_trans, none_value}
 use Rattle.optimistic.proofs.lemmas.tree.Sets.{looks_drafted, drafted_shape, shape_later, may_leaf, written_keeps}
 use Rattle.optimistic.proofs.lemmas.tree.Setting.{room_some, put_leaf, held_first, held_value, open_ends, other_value, writes_replaces, gone}
 use Rattle.optimistic.proofs.lemmas.tree.Taking.{leaf_there}
+use Rattle.optimistic.proofs.lemmas.words.Chains.{later_keeps, looks_keeps, releases_keeps}
 use Rattle.optimistic.proofs.tree.get.Tree.set_there.Goals as goal
 
 pub release-requires-clause-some : goal.release-requires-clause-some
@@ -100,3 +102,11 @@ pub returns-clause-lets_go : goal.returns-clause-lets_go
 returns-clause-lets_go c = let a = c.args.hand.now.me.0 in let w = c.child-child.new.hand.me.0 in let y = c.write_leaf-written.new.hand.me.0 in
     let keeps = written_keeps c.args.at.node c.args.at.form c.key_byte-byte.result c.leaf_word-leaf.result c.args.write.value w y c.if-not-written.ensures.written in
     gone c.args.at.node a y c.settle_write.new.hand.me.0 (keeps.mine ∙ c.child-child.ensures.looks.mine) c.settle_write.ensures.unlocked.mine
+
+pub returns-then-goes_on-clause-set : goal.returns-then-goes_on-clause-set
+returns-then-goes_on-clause-set c = let a = c.args.hand.now.me.0 in let w = c.child-child.new.hand.me.0 in let x = c.release-then-not-open.new.hand.me.0 in
+    later_keeps a w x (looks_keeps IsTree a w c.child-child.ensures.looks).0 (releases_keeps IsTree c.args.at.node w x c.release-then-not-open.ensures.released)
+
+pub returns-else-goes_on-clause-set : goal.returns-else-goes_on-clause-set
+returns-else-goes_on-clause-set c = let a = c.args.hand.now.me.0 in let w = c.child-child.new.hand.me.0 in let x = c.release-then-not-open.new.hand.me.0 in
+    later_keeps a w x (looks_keeps IsTree a w c.child-child.ensures.looks).0 (releases_keeps IsTree c.args.at.node w x c.release-then-not-open.ensures.released)

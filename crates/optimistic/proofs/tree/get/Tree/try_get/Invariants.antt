@@ -1,8 +1,11 @@
 use Rattle.std.specs.Prelude.{◌≡◌}
 use Rattle.optimistic.specs.words.Calls.{Keeps}
+use Rattle.optimistic.specs.words.Kept.{Since}
 use Rattle.optimistic.specs.words.Told.{IsOf}
+use Rattle.optimistic.specs.tree.Alone.{IsFollowed}
 use Rattle.optimistic.specs.tree.Reads.{IsLook}
 use Rattle.optimistic.proofs.tree.get.Tree.try_get.Given as goal
 
-abbrev pub invariant-loop : goal.invariant-loop
-invariant-loop l = IsOf l.fn.self.nodes.table.shared.table_id l.hand × Keeps l.initial.hand.me.0 l.hand.me.0 × (l.hand.me.0.mine ≡ l.initial.hand.me.0.mine) × IsLook l.fn.key l.next l.hand.me.0
+abbrev pub invariant-loop-depth : goal.invariant-loop-depth
+invariant-loop-depth l =
+    IsOf l.fn.self.nodes.table.shared.table_id l.hand × Keeps l.fn.hand.me.0 l.hand.me.0 × (l.hand.me.0.mine ≡ l.fn.hand.me.0.mine) × Since l.fn.hand.me.0.seen l.hand.me.0.seen × IsLook l.fn.key l.next l.hand.me.0 × IsFollowed l.fn.key l._depth l.next l.fn.hand.me.0 l.hand.me.0

@@ -2,7 +2,8 @@ use Rattle.std.proofs.Common.{List, length, take, sym, subst, arith}
 use Rattle.std.proofs.lemmas.List.{length-take-le}
 use Rattle.optimistic.specs.declared.tree.whole.Mark.{Mark}
 use Rattle.optimistic.specs.tree.Trees.{IsTree}
-use Rattle.optimistic.specs.tree.Wholes.{AreSeen, IsSteadfast}
+use Rattle.optimistic.specs.tree.Wholes.{AreSeen, IsSteadfast, HasMoved}
+use Rattle.optimistic.proofs.lemmas.tree.Anew.{marks_moved}
 use Rattle.optimistic.proofs.lemmas.tree.Wholes.{whole_then, looks_went}
 use Rattle.optimistic.proofs.lemmas.words.Chains.{looks_keeps}
 use Rattle.optimistic.proofs.tree.get.Tree.try_whole.Goals as goal
@@ -43,3 +44,9 @@ returns-else-still-clause-mine c = (looks_went c.args.hand.now.me.0 c.collect.ne
 
 pub returns-else-still-clause-since : goal.returns-else-still-clause-since
 returns-else-still-clause-since c = (looks_went c.args.hand.now.me.0 c.collect.new.hand.me.0 c.are_still-still.new.hand.me.0 c.collect.ensures.looks c.are_still-still.ensures.went).2
+
+pub returns-else-still-clause-alone : goal.returns-else-still-clause-alone
+returns-else-still-clause-alone c =
+    let w = c.are_still-still.new.hand.me.0 in
+    marks_moved c.collect.new.marks.items c.args.hand.now.me.0 c.collect.new.hand.me.0 w c.in_ok-count.ensures.dated c.are_still-still.ensures.went.since
+    (subst (λ (l : List Mark). HasMoved l w) c.deref.ensures.value (c.are_still-still.ensures.moved c.if-still.false))

@@ -1,8 +1,0 @@
-use Rattle.std.specs.Prelude.{◌≡◌}
-use Rattle.optimistic.specs.words.Calls.{Later}
-use Rattle.optimistic.specs.words.Kept.{Since}
-use Rattle.optimistic.specs.words.Told.{IsOf}
-use Rattle.optimistic.proofs.tree.get.Tree.get_by.Given as goal
-
-abbrev pub invariant-loop : goal.invariant-loop
-invariant-loop g l = IsOf l.fn.self.nodes.table.shared.table_id l.hand × Later l.fn.hand.me.0 l.hand.me.0 × (l.hand.me.0.mine ≡ l.fn.hand.me.0.mine) × Since l.fn.hand.me.0.seen l.hand.me.0.seen
