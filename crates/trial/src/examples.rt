@@ -21,6 +21,8 @@ pub mod counts;
 pub mod driven;
 #[cfg(test)]
 pub mod grace;
+#[cfg(test)]
+pub mod growing;
 pub mod history;
 #[cfg(test)]
 pub mod journal;

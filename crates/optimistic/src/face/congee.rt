@@ -119,12 +119,38 @@ impl<K: Word64, V: Word64> Congee<K, V> {
         })
     }
 
+    /// An index of numbers as one of keys and values, each of which is its number: so an index that was opened with pairs.
+    pub fn of_words(index: U64Congee) -> Self
+        ensures { result.index ≡ index }
+    {
+        Congee {
+            index,
+            words: PhantomData,
+        }
+    }
+
     /// A worker for a thread. It has seen some beginning of the log, in which no call is its own.
     pub fn worker(&self, alloc: Global) -> Result<WordWorker<'_, K, V>, AllocError>
         ensures index { IfOk result (λ w. w.index ≡ self.now.index.tree.nodes.table.shared.table_id) }
         ensures new { IfOk result (λ w. (w.made ≡ []) × (calls_by w.by w.seen ≡ [])) }
     {
         let worker = self.index.worker(alloc)?;
+        Ok(WordWorker {
+            worker,
+            words: PhantomData,
+        })
+    }
+
+    /// A worker that was given back goes on: it knows what it knew.
+    pub fn resume(
+        &self,
+        alloc: Global,
+        last: Retired,
+    ) -> Result<WordWorker<'_, K, V>, AllocError>
+        requires { last.index ≡ self.now.index.tree.nodes.table.shared.table_id }
+        ensures { IfOk result (λ w. w ≡ last) }
+    {
+        let worker = self.index.resume(alloc, last)?;
         Ok(WordWorker {
             worker,
             words: PhantomData,

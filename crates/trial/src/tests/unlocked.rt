@@ -7,6 +7,7 @@
 mod alone;
 mod calls;
 mod faces;
+mod growing;
 mod histories;
 mod lanes;
 mod many;
