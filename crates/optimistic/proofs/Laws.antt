@@ -6,3 +6,5 @@ pub use Rattle.optimistic.proofs.lemmas.face.Logs.{call_later}
 pub use Rattle.optimistic.proofs.lemmas.face.Logs.{call_wrote}
 -- a value that a key has some call gave it
 pub use Rattle.optimistic.proofs.lemmas.face.Logs.{call_value}
+-- what a range from the greatest key down leaves out is lower than all that it tells
+pub use Rattle.optimistic.proofs.lemmas.face.Newest.{rest_is_lower}
