@@ -10,3 +10,5 @@ pub use Rattle.optimistic.proofs.lemmas.face.Logs.{call_value}
 pub use Rattle.optimistic.proofs.lemmas.face.Rooms.{full_wants}
 -- where no node was locked at one moment, and none is new or has another version at a later one, no attempt between them comes to nothing
 pub use Rattle.optimistic.proofs.lemmas.tree.Alone.{alone, quiet_some, quiet_answers}
+-- what a range from the greatest key down leaves out is lower than all that it tells
+pub use Rattle.optimistic.proofs.lemmas.face.Newest.{rest_is_lower}

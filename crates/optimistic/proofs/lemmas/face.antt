@@ -3,6 +3,7 @@ pub mod Keyed
 pub mod Knowing
 pub mod Logs
 pub mod Many
+pub mod Newest
 pub mod Rooms
 pub mod Scanning
 pub mod ScanningBack
