@@ -4,6 +4,7 @@
 //! No test has a version near its end: each begins at 0 and is raised by two at a lock, to 2^64. That such a write is refused, and
 //! changes nothing, is proved.
 
+mod backward;
 mod calls;
 mod faces;
 mod histories;
