@@ -1,7 +1,7 @@
 //! Functions of users of the libraries, who have nothing but the contracts.
 //!
-//! The program calls `sessions` and `versions`. The others are proved with the tests alone, but for `history`: a proof file has its
-//! function in each build.
+//! The program calls `sessions` and `versions`. The others are proved with the tests alone, but for `history` and `reverse`: a proof file
+//! has its function in each build.
 
 #[cfg(test)]
 pub mod alone;
@@ -40,6 +40,7 @@ pub mod pages;
 pub mod promises;
 #[cfg(test)]
 pub mod read_mostly;
+pub mod reverse;
 pub mod sessions;
 #[cfg(test)]
 pub(crate) mod stack;

@@ -23,6 +23,7 @@ use crate::examples::owned::{
 use crate::examples::pages::{Numbers, Sum, drained, page_from, sum_by_pages};
 use crate::examples::promises::{answer_alike, gives_memory_back};
 use crate::examples::read_mostly::{Doubles, look, reads_beside_a_writer, writes_in_two_threads};
+use crate::examples::reverse::appends_and_reads;
 use crate::examples::stack::{Node, Stack, pops, sum_of_two};
 use crate::examples::threaded::{fills_and_closes, first_calls, shared_values};
 use crate::examples::timed::first_due;
@@ -548,5 +549,18 @@ fn a_range_at_one_moment_has_what_was_put_before(rt: HostRuntime) -> Result<(), 
     if read.count > 1 {
         assert_same(&rt, (read.count, pairs[1].key, pairs[1].value), (2, 2, 20));
     }
+    Ok(())
+}
+
+#[test]
+fn the_newest_entries_come_first(rt: HostRuntime) -> Result<(), Fail> {
+    let (read, two) = appends_and_reads(&rt, rt.alloc()).ok_or("nothing was read")?;
+    let (first, last) = (read.pairs[0], read.pairs[3]);
+    assert_same(
+        &rt,
+        (read.count, first.key, first.value, last.key),
+        (4, 6, 60, 3),
+    );
+    assert_same(&rt, (two.0.key, two.1.key), (4, 3));
     Ok(())
 }

@@ -5,6 +5,7 @@
 //! changes nothing, is proved.
 
 mod alone;
+mod backward;
 mod calls;
 mod faces;
 mod growing;

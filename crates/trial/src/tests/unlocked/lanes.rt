@@ -1,5 +1,6 @@
 //! What threads do at an index, each with a worker of its own.
 
+use super::backward::{are_far_told_back, are_forms_told_back};
 use super::calls::{Draws, Timed, calls, told};
 use super::faces::is_tried;
 use super::many::go_together;
@@ -39,6 +40,10 @@ pub enum Task {
     Far,
     /// Scans beside writers.
     Beside,
+    /// The same, from the greatest key down.
+    FormsBack(u64),
+    FarBack,
+    BesideBack,
 }
 
 /// The calls of each thread, and the pairs of the index that was closed after them.
@@ -78,7 +83,10 @@ fn does<R: Wait>(
         Task::Together(has_room) => one_if(alloc, go_together(rt, worker, has_room)),
         Task::Forms(step) => one_if(alloc, are_forms_told(rt, alloc, worker, step)),
         Task::Far => one_if(alloc, are_far_told(rt, alloc, worker)),
-        Task::Beside => one_if(alloc, are_beside(rt, alloc, worker, clock, place)),
+        Task::Beside => one_if(alloc, are_beside(rt, alloc, worker, clock, place, false)),
+        Task::FormsBack(step) => one_if(alloc, are_forms_told_back(rt, alloc, worker, step)),
+        Task::FarBack => one_if(alloc, are_far_told_back(rt, alloc, worker)),
+        Task::BesideBack => one_if(alloc, are_beside(rt, alloc, worker, clock, place, true)),
     }
 }
 

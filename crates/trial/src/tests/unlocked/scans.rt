@@ -1,6 +1,7 @@
 //! Scans and ranges at one moment: of one thread, at the bounds and in nodes of each form; and beside writers, of whose keys some
 //! stay, and of which one counts a key up and then another.
 
+use super::backward::observes_back;
 use super::lanes::{Task, count_of, ran};
 use super::waits::waits;
 use crate::tests::asserts::assert_same;
@@ -13,12 +14,12 @@ use std::test::Fail;
 const AMPLE: u32 = 1_000_000;
 
 /// How many rounds each thread makes.
-const ROUNDS: u64 = 300;
+pub const ROUNDS: u64 = 300;
 
 /// Beside writers the keys that stay: so many, so far apart, each with itself as its value.
-const FIXED: u64 = 40;
+pub const FIXED: u64 = 40;
 
-const APART: u64 = 3;
+pub const APART: u64 = 3;
 
 /// The keys below and above these that are counted up, the first one ahead.
 const FIRST: u64 = 0;
@@ -29,10 +30,10 @@ const SECOND: u64 = u64::MAX;
 const READY: u64 = 1;
 
 /// A buffer's place that isn't written.
-const UNWRITTEN: Pair = Pair { key: 1, value: 0 };
+pub const UNWRITTEN: Pair = Pair { key: 1, value: 0 };
 
 /// Keys at both ends, in leaves that hang high and low, and in nodes that part at each depth.
-const FAR: [u64; 12] = [
+pub const FAR: [u64; 12] = [
     0,
     1,
     255,
@@ -256,13 +257,15 @@ fn observes<R: Wait>(rt: &R, alloc: Global, worker: &mut Worker) -> bool {
     right
 }
 
-/// Whether what the thread of this number found was right: the first one counts, two more write beside it, and the others look.
+/// Whether what the thread of this number found was right: the first one counts, two more write beside it, and the others look,
+/// from the least key on or from the greatest down.
 pub fn are_beside<R: Wait>(
     rt: &R,
     alloc: Global,
     worker: &mut Worker,
     clock: &AtomicU64,
     place: u32,
+    is_back: bool,
 ) -> bool {
     if place == 0 {
         return counts_up(rt, worker, clock);
@@ -270,6 +273,8 @@ pub fn are_beside<R: Wait>(
     waits(rt, clock, READY);
     if place < APART as u32 {
         disturbs(rt, worker, place)
+    } else if is_back {
+        observes_back(rt, alloc, worker)
     } else {
         observes(rt, alloc, worker)
     }
