@@ -55,7 +55,7 @@ MOST = (16, 10_000)
 MOST_SECONDS = 20
 
 # Without optimization some tests try a part of what they can, as one of many orders of steps. By this environment they try all.
-ALL = {"TRIAL_CALLS": "10000", "TRIAL_KEYS": "100000", "TRIAL_ORDERS": "1", "TRIAL_PAIRS": "1000", "TRIAL_SCHEDULES": "20"}
+ALL = {"TRIAL_CALLS": "10000", "TRIAL_CHURN": "200000", "TRIAL_KEYS": "100000", "TRIAL_ORDERS": "1", "TRIAL_PAIRS": "1000", "TRIAL_SCHEDULES": "20"}
 
 # Lines that ask for no memory but that of their reply's text. Others may ask for a bag of 64 removals, and in some scripts for a lesser
 # node, without which they go on.

@@ -1,5 +1,6 @@
 //! The index whose readers take no lock: drawn calls of one thread and of many, judged to be one map's; what threads put, and add
-//! up; an index without room; a closure that waits for another call; and each public call once.
+//! up; an index without room; a closure that waits for another call; keys that come and go for as long as it lasts; and each public
+//! call once.
 //!
 //! No test has a version near its end: each begins at 0 and is raised by two at a lock, to 2^64. That such a write is refused, and
 //! changes nothing, is proved.
@@ -7,6 +8,7 @@
 mod alone;
 mod backward;
 mod calls;
+mod churn;
 mod faces;
 mod growing;
 mod histories;

@@ -49,7 +49,7 @@ pub const FAR: [u64; 12] = [
 ];
 
 /// The key of a pair.
-fn key_of(found: Option<Pair>) -> Option<u64> {
+pub fn key_of(found: Option<Pair>) -> Option<u64> {
     match found {
         Some(pair) => Some(pair.key),
         None => None,
