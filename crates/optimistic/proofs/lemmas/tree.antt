@@ -8,6 +8,7 @@ pub mod Branching
 pub mod Changing
 pub mod Empty
 pub mod Exchanging
+pub mod Few
 pub mod Holding
 pub mod Instead
 pub mod Making

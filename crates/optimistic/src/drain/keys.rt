@@ -8,6 +8,7 @@ use crate::forms::names::{child_level, child_tag};
 use crate::tree::place::Child;
 
 /// The last of the keys that have a key's first bytes, as many as the level, and then this one.
+#[inline(always)]
 pub fn last_key(key: u64, level: u64, byte: u8) -> u64
     requires { level < 8 }
     ensures { result + 1 ≡ (prefix_of key level * 256 + byte + 1) * 2 ^ (56 - 8 * level) }
@@ -18,6 +19,7 @@ pub fn last_key(key: u64, level: u64, byte: u8) -> u64
 }
 
 /// The first of the keys that have a key's first bytes, as many as the level, and then this one.
+#[inline(always)]
 pub fn first_key(key: u64, level: u64, byte: u8) -> u64
     requires { level < 8 }
     ensures { result ≡ (prefix_of key level * 256 + byte) * 2 ^ (56 - 8 * level) }

@@ -40,6 +40,7 @@ pub fn last_set(masks: &[u64; 4], to: u8) -> usize
 }
 
 /// The bytes of a node of up to 48, by the words that have them, and its mask, and of each of them its place.
+#[inline(always)]
 pub fn places_among<const N: usize>(words: &[u64; N], mask: u64, places: &mut [u8; 256]) -> [u64; 4]
     requires few { N ≤ 6 }
     requires fits { mask < 2 ^ (8 * N) }

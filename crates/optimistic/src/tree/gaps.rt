@@ -86,6 +86,7 @@ impl Tree {
     }
 
     /// The same of each node but those of 256 children, which have a word for each.
+    #[inline(always)]
     pub fn bytes(&self, hand: &mut Hand, at: Place, places: &mut [u8; 256]) -> [u64; 4]
         requires of { IsOf self.now.nodes.table.shared.table_id hand.old }
         requires at { IsPlace at (view hand.old) }

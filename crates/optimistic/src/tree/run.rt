@@ -2,8 +2,8 @@
 //!
 //! Under one reading of its version, before all and after, a node tells of key after key, up to the first of which a node below it
 //! tells, or to the last that it covers. So they are told as they were at one moment.
-ghost use Rattle.std.specs.Prelude.{◌≡◌, ◌≢◌, ℕ, List, ◌+◌, ◌%◌, ◌<◌, ◌≤◌, ◌⊎◌, ◌++◌, length, map, take, drop, true, IfNone, IfSome};
-ghost use Rattle.optimistic.specs.Layout.{byte_at, room};
+ghost use Rattle.std.specs.Prelude.{◌≡◌, ◌≢◌, ℕ, List, ◌+◌, ◌%◌, ◌<◌, ◌≤◌, ◌⊎◌, ◌++◌, length, map, take, drop, true, IfNone, IfSome, ◌-◌, ◌*◌, ◌^◌};
+ghost use Rattle.optimistic.specs.Layout.{byte_at, room, prefix_of};
 ghost use Rattle.optimistic.specs.declared.drain.nexts.Pair.{Pair};
 ghost use Rattle.optimistic.specs.declared.words.rule.Entry.{Entry};
 ghost use Rattle.optimistic.specs.declared.words.rule.Moment.{Moment};
@@ -26,6 +26,7 @@ use crate::drain::keys::{first_key, last_key};
 use crate::drain::nexts::{Next, next_of_item};
 use crate::forms::gaps::first_set;
 use crate::forms::names::{key_byte, leaf_key, where_word};
+use crate::forms::scan::{rest_from, take_next};
 use crate::moves::{Item, last_at, room_of};
 use crate::tree::get::{ATTEMPTS, Tree};
 use crate::tree::next::Sight;
@@ -83,6 +84,29 @@ fn lesser(a: u64, b: u64) -> u64
     if a < b { a } else { b }
 }
 
+/// The pair of a lone leaf at a key's byte, if its key lies from that key up to the last one with the byte.
+#[inline(always)]
+fn lone_pair(child: Child, level: u64, from: u64, byte: u8, end: u64) -> Option<Pair>
+    requires level { level < 8 }
+    requires byte { byte ≡ byte_at from level }
+    requires leaf { child.first % 256 ≡ 9 }
+    requires end { end + 1 ≡ (prefix_of from level * 256 + byte + 1) * 2 ^ (56 - 8 * level) }
+    ensures { (form : ℕ) (log : List Entry) → form < 5 → ChildMakes form level child.first child.second from log → Gives log from end result }
+{
+    let _ = (level, byte);
+    let key = leaf_key(child.first, from);
+    if key < from {
+        return None;
+    }
+    if key > end {
+        return None;
+    }
+    Some(Pair {
+        key,
+        value: child.second,
+    })
+}
+
 /// What a lone leaf at a key's byte tells.
 #[inline(always)]
 fn lone_bit(child: Child, level: u64, from: u64, byte: u8) -> Bit
@@ -93,20 +117,7 @@ fn lone_bit(child: Child, level: u64, from: u64, byte: u8) -> Bit
     ensures knows { (w : View) → KnowsBit from result w }
 {
     let end = last_key(from, level, byte);
-    let key = leaf_key(child.first, from);
-    if key < from {
-        return Bit::Told(None, end);
-    }
-    if key > end {
-        return Bit::Told(None, end);
-    }
-    Bit::Told(
-        Some(Pair {
-            key,
-            value: child.second,
-        }),
-        end,
-    )
+    Bit::Told(lone_pair(child, level, from, byte, end), end)
 }
 
 /// What the child at a key's byte tells.
@@ -138,6 +149,23 @@ fn bit_of(child: Child, at: Place, from: u64, byte: u8) -> Bit
         Next::Here(value) => Bit::Told(Some(Pair { key: from, value }), from),
         Next::Down(place) => Bit::Down(place),
         Next::After(end) => Bit::Told(None, end),
+    }
+}
+
+/// The first key from one on that has another byte, which is no lower, and the same bytes before it.
+#[inline(always)]
+fn first_with(from: u64, level: u64, low: u8, byte: u8) -> u64
+    requires level { level < 8 }
+    requires low { low ≡ byte_at from level }
+    requires order { low ≤ byte }
+    ensures near { IsNear level from result }
+    ensures byte { byte_at result level ≡ byte }
+    ensures first { (from ≤ result) × ((low ≡ byte) ⊎ (result ≡ (prefix_of from level * 256 + byte) * 2 ^ (56 - 8 * level))) × (low ≡ byte → result ≡ from) }
+{
+    if low == byte {
+        from
+    } else {
+        first_key(from, level, byte)
     }
 }
 
@@ -471,6 +499,192 @@ impl Tree {
         }
     }
 
+    /// The same from a key on, behind what was told of those before it.
+    fn run_rest(
+        &self,
+        hand: &mut Hand,
+        at: Place,
+        bytes: &[u64; 4],
+        places: &[u8; 256],
+        from: u64,
+        stop: u64,
+        out: &mut [Pair],
+        count: usize,
+        most: usize,
+    ) -> Part
+        requires of { IsOf self.now.nodes.table.shared.table_id hand.old }
+        requires at { IsPlace at (view hand.old) }
+        requires order { from ≤ stop }
+        requires near { (k : ℕ) → from ≤ k → k ≤ stop → IsNear at.level from k }
+        requires room { (count ≤ most) × (most ≤ length out.old) }
+        requires within { room at.form ≢ 256 → IsWithin at.form bytes.now places.now }
+        ensures of { IsOf self.now.nodes.table.shared.table_id hand.new }
+        ensures place { IsPlace at (view hand.new) }
+        ensures looks { (a : View) → Looks IsTree a (view hand.old) → Looks IsTree a (view hand.new) }
+        ensures since { Since (view hand.old).seen (view hand.new).seen }
+        ensures same { length out.new ≡ length out.old }
+        ensures count { (count ≤ result.count) × (result.count ≤ most) }
+        ensures order { (from ≤ behind stop result.next) × IfSome result.next (λ k. k ≤ stop) }
+        ensures below { IfSome result.below (λ p. IsPlace p (view hand.new)) }
+        ensures shows { (a : View) → Looks IsTree a (view hand.old) → HasBytes at bytes.now places.now a (view hand.old)
+            → (ps : List Pair) × ShowsRun at from (behind stop result.next) ps a (view hand.new) × (take result.count out.new ≡ take count out.old ++ ps) }
+    {
+        let part = self.run_in(
+            hand,
+            at,
+            bytes,
+            places,
+            from,
+            stop,
+            &mut out[count..],
+            most - count,
+        );
+        Part {
+            next: part.next,
+            count: count + part.count,
+            below: part.below,
+        }
+    }
+
+    /// The same of a node of up to 48 children, as long as they are lone leaves.
+    #[inline(always)]
+    fn run_few(
+        &self,
+        hand: &mut Hand,
+        at: Place,
+        bytes: &[u64; 4],
+        places: &[u8; 256],
+        start: u64,
+        stop: u64,
+        out: &mut [Pair],
+        most: usize,
+    ) -> Part
+        requires of { IsOf self.now.nodes.table.shared.table_id hand.old }
+        requires at { IsPlace at (view hand.old) }
+        requires order { start ≤ stop }
+        requires near { (k : ℕ) → start ≤ k → k ≤ stop → IsNear at.level start k }
+        requires room { most ≤ length out.old }
+        requires within { room at.form ≢ 256 → IsWithin at.form bytes.now places.now }
+        requires form { at.form < 4 }
+        ensures of { IsOf self.now.nodes.table.shared.table_id hand.new }
+        ensures place { IsPlace at (view hand.new) }
+        ensures looks { (a : View) → Looks IsTree a (view hand.old) → Looks IsTree a (view hand.new) }
+        ensures since { Since (view hand.old).seen (view hand.new).seen }
+        ensures same { length out.new ≡ length out.old }
+        ensures count { result.count ≤ most }
+        ensures order { (start ≤ behind stop result.next) × IfSome result.next (λ k. k ≤ stop) }
+        ensures below { IfSome result.below (λ p. IsPlace p (view hand.new)) }
+        ensures shows { (a : View) → Looks IsTree a (view hand.old) → HasBytes at bytes.now places.now a (view hand.old) → ShowsRun at start (behind stop result.next) (take result.count out.new) a (view hand.new) }
+    {
+        let mut from = start;
+        let mut low = key_byte(start, at.level);
+        let mut rest = rest_from(bytes, low);
+        let mut count = 0;
+        while count < most {
+            let Some(byte) = take_next(bytes, &mut rest) else {
+                return Part {
+                    next: None,
+                    count,
+                    below: None,
+                };
+            };
+            let child = self.entry(hand, at, places[byte as usize] as usize);
+            if child.first % 256 != 9 {
+                return self.run_rest(hand, at, bytes, places, from, stop, out, count, most);
+            }
+            let first = first_with(from, at.level, low, byte);
+            let end = last_key(first, at.level, byte);
+            let pair = lone_pair(child, at.level, first, byte, end);
+            count = put_within(out, count, pair, stop);
+            if end >= stop {
+                return Part {
+                    next: None,
+                    count,
+                    below: None,
+                };
+            }
+            from = end + 1;
+            low = byte + 1;
+        }
+        Part {
+            next: Some(from),
+            count,
+            below: None,
+        }
+    }
+
+    /// The same, as its bytes are read.
+    #[inline(always)]
+    fn run_there(
+        &self,
+        hand: &mut Hand,
+        at: Place,
+        start: u64,
+        stop: u64,
+        out: &mut [Pair],
+        most: usize,
+    ) -> Part
+        requires of { IsOf self.now.nodes.table.shared.table_id hand.old }
+        requires at { IsPlace at (view hand.old) }
+        requires order { start ≤ stop }
+        requires near { (k : ℕ) → start ≤ k → k ≤ stop → IsNear at.level start k }
+        requires room { most ≤ length out.old }
+        ensures of { IsOf self.now.nodes.table.shared.table_id hand.new }
+        ensures place { IsPlace at (view hand.new) }
+        ensures looks { (a : View) → Looks IsTree a (view hand.old) → Looks IsTree a (view hand.new) }
+        ensures since { Since (view hand.old).seen (view hand.new).seen }
+        ensures same { length out.new ≡ length out.old }
+        ensures count { result.count ≤ most }
+        ensures order { (start ≤ behind stop result.next) × IfSome result.next (λ k. k ≤ stop) }
+        ensures below { IfSome result.below (λ p. IsPlace p (view hand.new)) }
+        ensures shows { (a : View) → Looks IsTree a (view hand.old) → ShowsRun at start (behind stop result.next) (take result.count out.new) a (view hand.new) }
+    {
+        let mut places = [0; 256];
+        let bytes = self.bytes_there(hand, at, &mut places);
+        if at.form < 4 {
+            return self.run_few(hand, at, &bytes, &places, start, stop, out, most);
+        }
+        self.run_in(hand, at, &bytes, &places, start, stop, out, most)
+    }
+
+    /// The same, in a loop of its own for each form.
+    #[inline(always)]
+    fn run_of_form(
+        &self,
+        hand: &mut Hand,
+        at: Place,
+        start: u64,
+        stop: u64,
+        out: &mut [Pair],
+        most: usize,
+    ) -> Part
+        requires of { IsOf self.now.nodes.table.shared.table_id hand.old }
+        requires at { IsPlace at (view hand.old) }
+        requires order { start ≤ stop }
+        requires near { (k : ℕ) → start ≤ k → k ≤ stop → IsNear at.level start k }
+        requires room { most ≤ length out.old }
+        ensures of { IsOf self.now.nodes.table.shared.table_id hand.new }
+        ensures place { IsPlace at (view hand.new) }
+        ensures looks { (a : View) → Looks IsTree a (view hand.old) → Looks IsTree a (view hand.new) }
+        ensures since { Since (view hand.old).seen (view hand.new).seen }
+        ensures same { length out.new ≡ length out.old }
+        ensures count { result.count ≤ most }
+        ensures order { (start ≤ behind stop result.next) × IfSome result.next (λ k. k ≤ stop) }
+        ensures below { IfSome result.below (λ p. IsPlace p (view hand.new)) }
+        ensures shows { (a : View) → Looks IsTree a (view hand.old) → ShowsRun at start (behind stop result.next) (take result.count out.new) a (view hand.new) }
+    {
+        match at.form {
+            1 => self.run_there(hand, at, start, stop, out, most),
+            2 => self.run_there(hand, at, start, stop, out, most),
+            3 => self.run_there(hand, at, start, stop, out, most),
+            4 => self.run_there(hand, at, start, stop, out, most),
+            5 => self.run_there(hand, at, start, stop, out, most),
+            6 => self.run_there(hand, at, start, stop, out, most),
+            7 => self.run_there(hand, at, start, stop, out, most),
+            _ => self.run_there(hand, at, start, stop, out, most),
+        }
+    }
+
     /// What a node tells of the keys from one on up to another, with its version, if it covers the first and nobody has it.
     fn look_run(
         &self,
@@ -500,10 +714,8 @@ impl Tree {
         if version % 2 == 1 {
             return None;
         }
-        let mut there = [0; 256];
-        let bytes = self.bytes_there(hand, at, &mut there);
         let stop = lesser(last, last_key(from, at.level, 255));
-        let part = self.run_in(hand, at, &bytes, &there, from, stop, out, places);
+        let part = self.run_of_form(hand, at, from, stop, out, places);
         Some(run_of(at, version, part, stop, last))
     }
 

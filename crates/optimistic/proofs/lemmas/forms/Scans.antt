@@ -8,7 +8,8 @@ use Rattle.std.proofs.lemmas.Nat.Bits.{bit_at-zero, bit_at-lt, bit_at_above, bit
 use Rattle.std.specs.Int.Count.{count_leading_zeros, leading_of_zero}
 use Rattle.std.proofs.lemmas.Bool.{cases_lt, cases_eq}
 use Rattle.std.specs.Int.{bit_at}
-use Rattle.optimistic.specs.forms.Wide.{bit_in, IsNext, HasPlace, HasPlaces}
+use Rattle.optimistic.specs.declared.forms.scan.Rest.{Rest}
+use Rattle.optimistic.specs.forms.Wide.{bit_in, IsNext, IsRest, HasPlace, HasPlaces}
 use Rattle.optimistic.specs.forms.Bytes.{with_at}
 use Rattle.optimistic.specs.forms.Held.{held, IsNode}
 use Rattle.std.specs.FinMap as map
@@ -131,6 +132,80 @@ rest_next masks from at bit le small before next = (
         ap (bit_in masks) e ∙ in_word masks (at / 64) (k % 64) (omega arith) ∙ next.3 (k % 64) (omega (arith, a, g, next.1)) (omega (arith, e, g))
   ],
 )
+
+-- the bits of a word from one on are its rest
+pub rest_in : (masks : List ℕ) (word at from : ℕ) → word < 4 → word * 64 ≤ at → at < (word + 1) * 64 → from ≤ at → get_or masks word 0 < 2 ^ 64 → ((k : ℕ) → from ≤ k → k < at → bit_in masks k ≡ 0)
+    → IsRest masks from record { word = word; at = at; bits = get_or masks word 0 / 2 ^ (at - word * 64) }
+rest_in masks word at from few low high order small none = record {
+  word = few;
+  order = order;
+  end = omega (arith, high);
+  none = none;
+  bits = λ k l.
+      let e : at + k ≡ word * 64 + (at - word * 64 + k) = omega (arith, low) in
+      shifted_bit (get_or masks word 0) (at - word * 64) k ∙ sym (ap (bit_in masks) e ∙ in_word masks word (at - word * 64 + k) (omega (arith, l, low)));
+  within = λ k g. shifted_bit (get_or masks word 0) (at - word * 64) k ∙ bit_at_above (get_or masks word 0) 64 (at - word * 64 + k) small (omega (arith, g, low));
+}
+
+pub rest_whole : (masks : List ℕ) (word from : ℕ) → word < 4 → from ≤ word * 64 → get_or masks word 0 < 2 ^ 64 → ((k : ℕ) → from ≤ k → k < word * 64 → bit_in masks k ≡ 0) → IsRest masks from record { word = word; at = word * 64; bits = get_or masks word 0 }
+rest_whole masks word from few order small none = record {
+  word = few;
+  order = order;
+  end = omega arith;
+  none = none;
+  bits = λ k l. sym (in_word masks word k (omega (arith, l)));
+  within = λ k g. bit_at_above (get_or masks word 0) 64 k small (omega (arith, g));
+}
+
+-- Of a rest
+module _ (masks : List ℕ) (from : ℕ) (r : Rest) (is : IsRest masks from r) where
+  -- no bit is left of its word
+  pub rest_passed : r.bits ≡ 0 → (k : ℕ) → from ≤ k → k < (r.word + 1) * 64 → bit_in masks k ≡ 0
+  rest_passed empty k l g = elim (cases_lt k r.at) [
+    | inl b ↦ is.none k l b
+    | inr a ↦
+        let e : r.at + (k - r.at) ≡ k = omega (arith, a) in
+        sym (is.bits (k - r.at) (omega (arith, e, g)) ∙ ap (bit_in masks) e) ∙ ap (λ (z : ℕ). bit_at z (k - r.at)) empty ∙ bit_at-zero (k - r.at)
+  ]
+
+  -- the first of its bits
+  module _ (z : ℕ) (set : bit_at r.bits z ≡ 1) (below : (k : ℕ) → k < z → bit_at r.bits k ≡ 0) where
+    pub rest_within : r.at + z < (r.word + 1) * 64
+    rest_within = elim (cases_lt (r.at + z) ((r.word + 1) * 64)) [
+      | inl l ↦ l
+      | inr g ↦ let none = is.within z g in absurd (omega (arith, none, set))
+    ]
+
+    pub rest_first : IsNext (bit_in masks) 256 from (r.at + z)
+    rest_first =
+        let w = rest_within in
+        let few = is.word in
+        let order = is.order in (
+          omega (arith, order),
+          omega (arith, w, few),
+          sym (is.bits z w) ∙ set,
+          λ k l g. elim (cases_lt k r.at) [
+            | inl b ↦ is.none k l b
+            | inr a ↦
+                let e : r.at + (k - r.at) ≡ k = omega (arith, a) in
+                sym (is.bits (k - r.at) (omega (arith, e, g, w)) ∙ ap (bit_in masks) e) ∙ below (k - r.at) (omega (arith, a, g))
+          ],
+        )
+
+    pub rest_less : (bits : ℕ) → bits ≡ r.bits / 2 ^ z / 2 ^ 1 → IsRest masks (r.at + z + 1) record { word = r.word; at = r.at + z + 1; bits = bits }
+    rest_less bits e =
+        let w = rest_within in
+        let moved : (k : ℕ) → bit_at bits k ≡ bit_at r.bits (z + (1 + k)) = λ k. ap (λ (y : ℕ). bit_at y k) e ∙ shifted_bit (r.bits / 2 ^ z) 1 k ∙ shifted_bit r.bits z (1 + k) in
+        record {
+          word = is.word;
+          order = omega arith;
+          end = omega (arith, w);
+          none = λ k l g. absurd (omega (arith, l, g));
+          bits = λ k l.
+              let s : r.at + (z + (1 + k)) ≡ r.at + z + 1 + k = omega arith in
+              moved k ∙ is.bits (z + (1 + k)) (omega (arith, l)) ∙ ap (bit_in masks) s;
+          within = λ k g. moved k ∙ is.within (z + (1 + k)) (omega (arith, g));
+        }
 
 -- back from a place in a list of words
 pub back_none : (masks : List ℕ) (end last to : ℕ) → 0 < end → ((k : ℕ) → end ≤ k → k < to → bit_in masks k ≡ 0) → ((k : ℕ) → last ≤ k → k ≤ (end - 1) % 64 → bit_at (get_or masks ((end - 1) / 64) 0) k ≡ 0)
