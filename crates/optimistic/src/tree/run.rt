@@ -881,8 +881,7 @@ impl Tree {
         Some(run)
     }
 
-    /// The same, some times where a writer comes between. The trail is a hint: where it came to nothing, the way begins anew at the
-    /// root, since freed nodes may lead to one another.
+    /// The same, some times where a writer comes between.
     fn run_soon(
         &self,
         hand: &mut Hand,
@@ -910,7 +909,6 @@ impl Tree {
             if let Some(run) = self.try_run(hand, trail, from, last, out, places) {
                 return Some(run);
             }
-            *trail = self.trail(hand);
             spin_loop();
         }
         None
