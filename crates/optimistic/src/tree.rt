@@ -37,5 +37,5 @@ pub use fresh::Free;
 pub use get::{ATTEMPTS, TOP, Tree};
 pub use reshape::Want;
 pub use set::Set;
-pub use whole::Unscanned;
+pub use whole::{Reached, Unscanned};
 pub use write::{Condition, Write};
