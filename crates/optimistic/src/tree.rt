@@ -40,5 +40,5 @@ pub use get::{ATTEMPTS, TOP, Tree};
 pub use reshape::Want;
 pub use set::Set;
 pub use trade::{Trade, share_of};
-pub use whole::Unscanned;
+pub use whole::{Reached, Unscanned};
 pub use write::{Condition, Write};

@@ -12,7 +12,7 @@ use Rattle.optimistic.specs.face.Refusals.{IsUnopened}
 use Rattle.optimistic.specs.tree.Drained.{IsAll}
 
 -- an index of so many words, where a worker that had made no call put each pair's value at its key, one after the other
-pub record IsFilled (words : ℕ) (pairs : List Pair) (f : Filled) : Type 0 where
+pub record IsOpenedWith (words : ℕ) (pairs : List Pair) (f : Filled) : Type 0 where
   pub size : f.index.tree.nodes.table.shared.table_id.words ≡ words
   pub own : f.last.index ≡ f.index.tree.nodes.table.shared.table_id
   pub first : Known
@@ -21,7 +21,7 @@ pub record IsFilled (words : ℕ) (pairs : List Pair) (f : Filled) : Type 0 wher
 
 -- the same, of all pairs of one log that comes after what a thread has seen, and after its calls
 abbrev pub IsReopened : (seen made : List Entry) → ℕ → ℕ → Filled → Type 0
-IsReopened seen made by words f = (pairs : List Pair) × IsAll seen made by pairs × IsFilled words pairs f
+IsReopened seen made by words f = (pairs : List Pair) × IsAll seen made by pairs × IsOpenedWith words pairs f
 
 -- there is no such index, or a pair was refused
 abbrev pub IsUnfilled : ℕ → List Pair → Unfilled → Type 0

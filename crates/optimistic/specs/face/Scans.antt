@@ -7,10 +7,11 @@ use Rattle.optimistic.specs.declared.words.rule.Entry.{Entry}
 use Rattle.optimistic.specs.words.Kept.{value_of, StartsWith}
 use Rattle.optimistic.specs.tree.Drained.{IsDrained, pair_of}
 use Rattle.optimistic.specs.declared.tree.run.Run.{Run}
+use Rattle.optimistic.specs.declared.tree.whole.Reached.{Reached}
 use Rattle.optimistic.specs.tree.Nexts.{IsFirst, IsLast, IsFirstIn, IsLastIn, HasNone}
 use Rattle.optimistic.specs.tree.Runs.{behind}
 use Rattle.optimistic.specs.tree.Wholes.{IsRange}
-use Rattle.optimistic.specs.face.Calls.{Known, Looked}
+use Rattle.optimistic.specs.face.Calls.{Known, Saw, Looked}
 
 -- at one moment of the call this holds of the log
 pub record Once (P : List Entry → Type 0) (v w : Known) : Type 0 where
@@ -61,6 +62,26 @@ StoodThroughout key v w = (log : List Entry) → StartsWith log v.seen → Start
 
 abbrev pub HasKey : List Pair → ℕ → Type 0
 HasKey pairs key = (value : ℕ) × Contains pairs (pair_of key value)
+
+-- a key had no value at one moment
+abbrev pub Lacked : ℕ → Known → Known → Type 0
+Lacked key v w = Once (λ log. value_of key log ≡ None) v w
+
+-- the keys from one on and below the next that is to be asked for
+pub record IsSoFar (from next : ℕ) (v w : Known) (pairs : List Pair) : Type 0 where
+  pub saw : Saw v w
+  pub order : from ≤ next
+  pub ascending : AllPairs (λ p q. p.key < q.key) pairs
+  pub inside : (p : Pair) → Contains pairs p → (from ≤ p.key) × (p.key < next)
+  pub stood : Rise v.seen pairs w.seen
+  pub passed : (key : ℕ) → from ≤ key → key < next → HasKey pairs key ⊎ Lacked key v w
+
+-- what some nodes told, one behind the other: the pairs of the keys from one on and below the next that is to be told, which is a later one
+pub record IsFilled (r : Reached) (from last places : ℕ) (pairs : List Pair) (v w : Known) : Type 0 where
+  pub few : r.count ≤ places
+  pub later : from < behind last r.next
+  pub inside : IfSome r.next (λ k. k ≤ last)
+  pub far : IsSoFar from (behind last r.next) v w pairs
 
 -- What a scan of the keys from one on and below another finds, for so many places: pairs in ascending order of keys, each of which stood at a
 -- moment, and these moments rise. A key that stood throughout is there, unless the places are filled with lower ones

@@ -4,7 +4,7 @@ ghost use Rattle.optimistic.specs.declared.words.rule.Entry.{Entry};
 ghost use Rattle.optimistic.specs.words.Kept.{calls_by};
 ghost use Rattle.optimistic.specs.face.Calls.{Known};
 ghost use Rattle.optimistic.specs.face.Many.{PutAll};
-ghost use Rattle.optimistic.specs.face.Openings.{IsFilled, IsReopened, IsUnfilled};
+ghost use Rattle.optimistic.specs.face.Openings.{IsOpenedWith, IsReopened, IsUnfilled};
 ghost use Rattle.optimistic.specs.tree.Drained.{rest, HasLog, IsClosed};
 
 use crate::drain::{Pair, Pairs};
@@ -49,7 +49,7 @@ impl U64Congee {
         words: usize,
         pairs: &[Pair],
     ) -> Result<Filled, Unfilled>
-        ensures filled { IfOk result (λ f. IsFilled words pairs.now f) }
+        ensures filled { IfOk result (λ f. IsOpenedWith words pairs.now f) }
         ensures cause { IfErr result (IsUnfilled words pairs.now) }
     {
         let index = U64Congee::new(alloc, words)?;

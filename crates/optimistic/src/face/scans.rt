@@ -2,13 +2,14 @@
 //!
 //! Each pair that is told stood at a moment within the call. Of a single pair this is one moment, at which no key stood between
 //! it and the key that was asked for. Of a range it is one for each pair, and these moments rise.
-ghost use Rattle.std.specs.Prelude.{◌≡◌, ℕ, ◌+◌, ◌<◌, ◌≤◌, ◌^◌, length, take, drop};
+ghost use Rattle.std.specs.Prelude.{◌≡◌, ℕ, ◌+◌, ◌<◌, ◌≤◌, ◌^◌, length, take, drop, IfSome};
 ghost use Rattle.optimistic.specs.face.Calls.{Saw};
-ghost use Rattle.optimistic.specs.face.Scans.{FirstFrom, LastBelow, FirstIn, LastIn, Emptiness, IsScan, AreKeys, Counts, IsRunOf};
+ghost use Rattle.optimistic.specs.face.Scans.{FirstFrom, LastBelow, FirstIn, LastIn, Emptiness, IsScan, AreKeys, Counts, IsRunOf, IsFilled};
 ghost use Rattle.optimistic.specs.tree.Trails.{IsTrail};
 
 use crate::drain::Pair;
 use crate::face::worker::Worker;
+use crate::tree::Reached;
 use crate::tree::run::{BUFFER, Run, fewer, put_all, put_keys};
 use crate::tree::trail::Trail;
 use std::sync::Wait;
@@ -126,6 +127,66 @@ impl<'t> Worker<'t> {
             .run(rt, &mut self.hand, trail, from, last, pairs, places)
     }
 
+    /// The same, if no writer comes between.
+    #[inline(always)]
+    fn run_on(
+        &mut self,
+        trail: &mut Trail,
+        from: u64,
+        last: u64,
+        pairs: &mut [Pair],
+        places: usize,
+    ) -> Option<Run>
+        requires trail { IsTrail trail.old self.old.moment }
+        requires order { from ≤ last }
+        requires room { (0 < places) × (places ≤ length pairs.old) }
+        ensures run { IfSome result (λ r. IsRunOf r from last places (take r.count pairs.new) self.old self.new) }
+        ensures saw { Saw self.old self.new }
+        ensures same { length pairs.new ≡ length pairs.old }
+        ensures trail { IsTrail trail.new self.new.moment }
+    {
+        self.tree
+            .run_on(&mut self.hand, trail, from, last, pairs, places)
+    }
+
+    /// What some nodes tell of the keys from one on, one node behind the other, as long as there are places and no writer comes
+    /// between: each as it was at one moment within the call, and these moments rise.
+    fn fill<R: Wait>(
+        &mut self,
+        rt: &R,
+        trail: &mut Trail,
+        from: u64,
+        last: u64,
+        pairs: &mut [Pair],
+        places: usize,
+    ) -> Reached
+        requires trail { IsTrail trail.old self.old.moment }
+        requires order { from ≤ last }
+        requires room { (0 < places) × (places ≤ length pairs.old) }
+        ensures filled { IsFilled result from last places (take result.count pairs.new) self.old self.new }
+        ensures same { length pairs.new ≡ length pairs.old }
+        ensures trail { IsTrail trail.new self.new.moment }
+    {
+        let run = self.run(rt, trail, from, last, pairs, places);
+        let mut next = run.next;
+        let mut count = run.count;
+        while count < places {
+            let Some(key) = next else {
+                return Reached { next: None, count };
+            };
+            let Some(run) = self.run_on(trail, key, last, &mut pairs[count..], places - count)
+            else {
+                return Reached {
+                    next: Some(key),
+                    count,
+                };
+            };
+            next = run.next;
+            count += run.count;
+        }
+        Reached { next, count }
+    }
+
     /// Writes pairs with start <= key < end into `out`, ascending, and gives their number. Each stood at a moment within the
     /// call, and these moments rise. A key that stood throughout the call is there, unless the places are filled with lower keys.
     /// The places past those that are written stay as they were.
@@ -163,10 +224,10 @@ impl<'t> Worker<'t> {
         let mut count = 0;
         while count < out.len() {
             let places = fewer(out.len() - count, BUFFER);
-            let run = self.run(rt, &mut trail, from, last, &mut pairs, places);
-            put_all(out, count, &pairs, run.count);
-            count += run.count;
-            match run.next {
+            let filled = self.fill(rt, &mut trail, from, last, &mut pairs, places);
+            put_all(out, count, &pairs, filled.count);
+            count += filled.count;
+            match filled.next {
                 Some(next) => from = next,
                 None => return count,
             }
@@ -192,10 +253,10 @@ impl<'t> Worker<'t> {
         let mut count = 0;
         while count < out.len() {
             let places = fewer(out.len() - count, BUFFER);
-            let run = self.run(rt, &mut trail, from, last, &mut pairs, places);
-            put_keys(out, count, &pairs, run.count);
-            count += run.count;
-            match run.next {
+            let filled = self.fill(rt, &mut trail, from, last, &mut pairs, places);
+            put_keys(out, count, &pairs, filled.count);
+            count += filled.count;
+            match filled.next {
                 Some(next) => from = next,
                 None => return count,
             }
@@ -217,9 +278,9 @@ impl<'t> Worker<'t> {
         let mut from = start;
         let mut count = 0u64;
         loop {
-            let run = self.run(rt, &mut trail, from, last, &mut pairs, BUFFER);
-            count = count.saturating_add(run.count as u64);
-            match run.next {
+            let filled = self.fill(rt, &mut trail, from, last, &mut pairs, BUFFER);
+            count = count.saturating_add(filled.count as u64);
+            match filled.next {
                 Some(next) => from = next,
                 None => return count,
             }

@@ -720,6 +720,7 @@ impl Tree {
     }
 
     /// What the last node of a trail tells.
+    #[inline(always)]
     fn look_last(
         &self,
         hand: &mut Hand,
@@ -745,7 +746,8 @@ impl Tree {
     }
 
     /// What is told of the keys from one on by a node on the way to it. The trail leads to that which tells of the next key.
-    fn look_by(
+    #[inline(always)]
+    pub fn look_by(
         &self,
         hand: &mut Hand,
         trail: &mut Trail,
@@ -851,6 +853,7 @@ impl Tree {
     }
 
     /// What is told of the keys from one on, as it was at one moment, if no writer comes between.
+    #[inline(always)]
     fn try_run(
         &self,
         hand: &mut Hand,
@@ -943,5 +946,30 @@ impl Tree {
             yield_now();
         }
         unreachable!()
+    }
+
+    /// The same, if no writer comes between.
+    #[inline(always)]
+    pub fn run_on(
+        &self,
+        hand: &mut Hand,
+        trail: &mut Trail,
+        from: u64,
+        last: u64,
+        out: &mut [Pair],
+        places: usize,
+    ) -> Option<Run>
+        requires of { IsOf self.now.nodes.table.shared.table_id hand.old }
+        requires trail { IsTrail trail.old (view hand.old).seen }
+        requires order { from ≤ last }
+        requires room { (0 < places) × (places ≤ length out.old) }
+        ensures of { IsOf self.now.nodes.table.shared.table_id hand.new }
+        ensures keeps { Keeps (view hand.old) (view hand.new) }
+        ensures mine { (view hand.new).mine ≡ (view hand.old).mine }
+        ensures trail { IsTrail trail.new (view hand.new).seen }
+        ensures same { length out.new ≡ length out.old }
+        ensures told { IfSome result (λ r. WasTold r from last places (take r.count out.new) (view hand.old) (view hand.new)) }
+    {
+        self.try_run(hand, trail, from, last, out, places)
     }
 }

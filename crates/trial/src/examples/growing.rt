@@ -3,14 +3,13 @@ ghost use Rattle.std.specs.Prelude.{◌≡◌, ◌+◌, ◌<◌, Err, IfSome};
 ghost use Rattle.optimistic.specs.declared.face.refusal.Refusal.TheVariants.{Full};
 ghost use Rattle.optimistic.specs.words.Room.{used};
 ghost use Rattle.optimistic.specs.face.Openings.{IsReopened};
-ghost use Rattle.optimistic.proofs.Laws.{full_wants};
 
 use optimistic::{Filled, Refusal, Retired, U64Congee, Worker};
 use std::alloc::Global;
 use std::sync::Wait;
 
 /// Puts a value at a key. It is refused for want of room only at a moment at which fewer than 520 words are left.
-#[tactic(auto, using(full_wants))]
+#[tactic(auto, using(optimistic::proofs::Laws::full_wants))]
 pub fn puts<R: Wait>(
     rt: &R,
     worker: &mut Worker<'_>,

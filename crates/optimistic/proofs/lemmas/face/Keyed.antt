@@ -2,10 +2,9 @@
 use Rattle.std.proofs.Common.{◌≡◌, ℕ, ◌≤◌, List, [], ◌++◌, length, ap, sym, ◌∙◌, refl, arith}
 use Rattle.std.proofs.lemmas.List.{map-append, length-map}
 use Rattle.optimistic.specs.declared.drain.nexts.Pair.{Pair}
-use Rattle.optimistic.specs.tree.Drained.{IsDrained}
-use Rattle.optimistic.specs.face.Calls.{Known, Saw}
-use Rattle.optimistic.specs.face.Scans.{Once, keys_of, AreKeys}
-use Rattle.optimistic.proofs.lemmas.face.Scanning.{IsSoFar, so_far_none, so_far_run, scan_none, scan_full, scan_done}
+use Rattle.optimistic.specs.face.Calls.{Known}
+use Rattle.optimistic.specs.face.Scans.{IsSoFar, keys_of, AreKeys}
+use Rattle.optimistic.proofs.lemmas.face.Scanning.{so_far_none, so_far_both, scan_none, scan_full, scan_done}
 
 abbrev pub IsKeyed : (from next : ℕ) → Known → Known → List ℕ → Type 0
 IsKeyed from next v w keys = (pairs : List Pair) × IsSoFar from next v w pairs × (keys ≡ keys_of pairs)
@@ -14,10 +13,10 @@ pub keyed_none : (from : ℕ) (v : Known) → IsKeyed from from v v []
 keyed_none from v = ([], so_far_none from v, refl)
 
 -- the keys of a run behind them
-pub keyed_run : (from next to : ℕ) (v u w : Known) (keys : List ℕ) (more : List Pair) → IsKeyed from next v u keys → Saw u w → next ≤ to → Once (λ log. IsDrained log next to more) u w → IsKeyed from to v w (keys ++ keys_of more)
-keyed_run from next to v u w keys more s later order once = (
+pub keyed_run : (from next to : ℕ) (v u w : Known) (keys : List ℕ) (more : List Pair) → IsKeyed from next v u keys → IsSoFar next to u w more → IsKeyed from to v w (keys ++ keys_of more)
+keyed_run from next to v u w keys more s far = (
   s.0 ++ more,
-  so_far_run from next to v u w s.0 more s.1 later order once,
+  so_far_both from next to v u w s.0 more s.1 far,
   ap (λ (l : List ℕ). l ++ keys_of more) s.2 ∙ sym (map-append (λ (q : Pair). q.key) s.0 more),
 )
 

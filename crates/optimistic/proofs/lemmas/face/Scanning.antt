@@ -5,13 +5,14 @@ use mathlib.Core.List.{append-nil, append_assoc}
 use Rattle.std.proofs.lemmas.Bool.{cases_lt}
 use Rattle.std.proofs.lemmas.List.Elements.{Contains-append_left, Contains-append_right, Contains-append_cases}
 use Rattle.optimistic.specs.declared.drain.nexts.Pair.{Pair}
+use Rattle.optimistic.specs.declared.tree.whole.Reached.{Reached}
 use Rattle.optimistic.specs.declared.words.rule.Entry.{Entry}
 use Rattle.optimistic.specs.words.Kept.{value_of, StartsWith}
 use Rattle.optimistic.specs.tree.Drained.{IsDrained, pair_of}
 use Rattle.optimistic.specs.tree.Nexts.{HasNone}
 use Rattle.optimistic.specs.tree.Wholes.{IsRange}
 use Rattle.optimistic.specs.face.Calls.{Known, Saw}
-use Rattle.optimistic.specs.face.Scans.{Once, FirstFrom, LastBelow, FirstIn, LastIn, Emptiness, Rise, StoodThroughout, HasKey, IsScan, Counts}
+use Rattle.optimistic.specs.face.Scans.{Once, FirstFrom, LastBelow, FirstIn, LastIn, Emptiness, Rise, StoodThroughout, HasKey, Lacked, IsSoFar, IsFilled, IsScan, Counts}
 use Rattle.optimistic.proofs.lemmas.face.Knowing.{saw_refl, saw_trans}
 use Rattle.optimistic.proofs.lemmas.drain.Keys.{no_pair}
 use Rattle.optimistic.proofs.lemmas.drain.Lists.{drained_none, ascends_both}
@@ -34,19 +35,6 @@ some_there p v w f = (f.0, record { log = f.1.log; after = f.1.after; before = f
 
 pub none_there : (v w : Known) → FirstFrom 0 None v w → Emptiness true v w
 none_there v w f = (f.0, record { log = f.1.log; after = f.1.after; before = f.1.before; holds = f.1.holds })
-
--- a key had no value at one moment
-abbrev pub Lacked : ℕ → Known → Known → Type 0
-Lacked key v w = Once (λ log. value_of key log ≡ None) v w
-
--- the keys from one on and below the next that is to be asked for
-pub record IsSoFar (from next : ℕ) (v w : Known) (pairs : List Pair) : Type 0 where
-  pub saw : Saw v w
-  pub order : from ≤ next
-  pub ascending : AllPairs (λ p q. p.key < q.key) pairs
-  pub inside : (p : Pair) → Contains pairs p → (from ≤ p.key) × (p.key < next)
-  pub stood : Rise v.seen pairs w.seen
-  pub passed : (key : ℕ) → from ≤ key → key < next → HasKey pairs key ⊎ Lacked key v w
 
 pub so_far_none : (from : ℕ) (v : Known) → IsSoFar from from v v []
 so_far_none from v = record {
@@ -98,6 +86,40 @@ so_far_run from next to v u w pairs more old later order once = record {
       | inl none ↦ inr (once_from (λ log. value_of key log ≡ None) v u w old.saw record { log = once.log; after = once.after; before = once.before; holds = none })
       | inr some ↦ inl (some.0, Contains-append_right pairs more (pair_of key some.0) (once.holds.all key some.0 m below some.1))
     ]
+  ];
+}
+
+-- what some nodes told behind that
+pub so_far_both : (from next to : ℕ) (v u w : Known) (pairs more : List Pair) → IsSoFar from next v u pairs → IsSoFar next to u w more → IsSoFar from to v w (pairs ++ more)
+so_far_both from next to v u w pairs more old new = record {
+  saw = saw_trans v u w old.saw new.saw;
+  order = (let a = old.order in let b = new.order in omega (arith, a, b));
+  ascending = ascends_both pairs more old.ascending new.ascending (λ p q c d. let l = (old.inside p c).1 in let m = (new.inside q d).0 in omega (arith, l, m));
+  inside = λ p c. elim (Contains-append_cases pairs more p c) [
+    | inl o ↦ let t = old.inside p o in let l = t.1 in let b = new.order in (t.0, omega (arith, l, b))
+    | inr o ↦ let t = new.inside p o in let a = old.order in let l = t.0 in (omega (arith, a, l), t.1)
+  ];
+  stood = rise_both v.seen pairs more u.seen u.seen w.seen old.stood ([], sym (append-nil u.seen)) new.stood;
+  passed = λ key above below. elim (cases_lt key next) [
+    | inl m ↦ either_way key v u w pairs more new.saw (old.passed key above m)
+    | inr m ↦ elim (new.passed key m below) [
+      | inl h ↦ inl (h.0, Contains-append_right pairs more (pair_of key h.0) h.1)
+      | inr l ↦ inr (once_from (λ log. value_of key log ≡ None) v u w old.saw l)
+    ]
+  ];
+}
+
+-- it holds later too
+pub so_far_later : (from next : ℕ) (v u w : Known) (pairs : List Pair) → IsSoFar from next v u pairs → Saw u w → IsSoFar from next v w pairs
+so_far_later from next v u w pairs old later = record {
+  saw = saw_trans v u w old.saw later;
+  order = old.order;
+  ascending = old.ascending;
+  inside = old.inside;
+  stood = rise_to v.seen pairs u.seen w.seen old.stood later.3;
+  passed = λ key above below. elim (old.passed key above below) [
+    | inl h ↦ inl h
+    | inr l ↦ inr (once_to (λ log. value_of key log ≡ None) v u w l later)
   ];
 }
 
@@ -206,11 +228,11 @@ IsCounted from next n v w = (pairs : List Pair) × IsSoFar from next v w pairs �
 pub counted_none : (from : ℕ) (v : Known) → IsCounted from from 0 v v
 counted_none from v = ([], so_far_none from v, refl)
 
-pub counted_run : (from next to n m k : ℕ) (v u w : Known) (more : List Pair) → IsCounted from next n v u → Saw u w → next ≤ to → Once (λ log. IsDrained log next to more) u w → length more ≡ k → m ≡ min (n + k) (2 ^ 64 - 1) → IsCounted from to m v w
-counted_run from next to n m k v u w more s later order once long e =
+pub counted_run : (from next to n m k : ℕ) (v u w : Known) (more : List Pair) → IsCounted from next n v u → IsSoFar next to u w more → length more ≡ k → m ≡ min (n + k) (2 ^ 64 - 1) → IsCounted from to m v w
+counted_run from next to n m k v u w more s far long e =
     let both : length (s.0 ++ more) ≡ length s.0 + length more = length-append s.0 more in
     let is = s.2 in
-    (s.0 ++ more, so_far_run from next to v u w s.0 more s.1 later order once, omega (arith, e, is, both, long))
+    (s.0 ++ more, so_far_both from next to v u w s.0 more s.1 far, omega (arith, e, is, both, long))
 
 pub counts_done : (from next to n : ℕ) (v w : Known) → IsCounted from next n v w → next ≡ to → Counts from to n v w
 counts_done from next to n v w s end = (s.0, scan_done from next to (length s.0 + 1) v w s.0 s.1 end (omega arith), s.2)

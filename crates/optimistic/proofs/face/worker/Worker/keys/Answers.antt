@@ -38,16 +38,15 @@ loop-count-preserved g c =
     let old = c.args.out.now in
     let from : ℕ = c.loop-count.from in
     let last : ℕ = c.args.last in
-    let r = c.run-run.result in
-    let told = c.run-run.ensures.run in
+    let r = c.fill-filled.result in
+    let told = c.fill-filled.ensures.filled in
     let next : ℕ = c.in-Some.next in
     let v = c.args.self.now in
     let u = c.loop-count.self in
-    let w = c.run-run.new.self in
-    let more = take r.count c.run-run.new.pairs in
-    let later = told.later in
+    let w = c.fill-filled.new.self in
+    let more = take r.count c.fill-filled.new.pairs in
     let is : behind last r.next ≡ next = ap (λ (o : Option ℕ). behind last o) c.in-Some.is in
-    let all : IsKeyed c.args.start (behind last r.next) v w (take n out ++ keys_of more) = keyed_run c.args.start from (behind last r.next) v u w (take n out) more i.0 told.looked.0 (omega (arith, later)) told.once in
+    let all : IsKeyed c.args.start (behind last r.next) v w (take n out ++ keys_of more) = keyed_run c.args.start from (behind last r.next) v u w (take n out) more i.0 told.far in
     let inside : next ≤ last = subst (λ (o : Option ℕ). IfSome o (λ k. k ≤ last)) c.in-Some.is told.inside in
     let few = told.few in
     let room = c.fewer-places.ensures.0 in
@@ -58,8 +57,8 @@ loop-count-preserved g c =
       omega (arith, few, room, low, same),
       same ∙ i.3,
       past n r.count c.put_keys.new.out out old c.put_keys.ensures.past i.4,
-      c.run-run.ensures.trail,
-      c.run-run.ensures.same ∙ i.6,
+      c.fill-filled.ensures.trail,
+      c.fill-filled.ensures.same ∙ i.6,
     )
 
 pub returns-in-None-clause-keys : goal.returns-in-None-clause-keys
@@ -69,15 +68,14 @@ returns-in-None-clause-keys g c =
     let out = c.loop-count.out in
     let from : ℕ = c.loop-count.from in
     let last : ℕ = c.args.last in
-    let r = c.run-run.result in
-    let told = c.run-run.ensures.run in
+    let r = c.fill-filled.result in
+    let told = c.fill-filled.ensures.filled in
     let v = c.args.self.now in
     let u = c.loop-count.self in
-    let w = c.run-run.new.self in
-    let more = take r.count c.run-run.new.pairs in
-    let later = told.later in
+    let w = c.fill-filled.new.self in
+    let more = take r.count c.fill-filled.new.pairs in
     let is : behind last r.next ≡ last + 1 = ap (λ (o : Option ℕ). behind last o) c.in-None.is in
-    let all : IsKeyed c.args.start (behind last r.next) v w (take n out ++ keys_of more) = keyed_run c.args.start from (behind last r.next) v u w (take n out) more i.0 told.looked.0 (omega (arith, later)) told.once in
+    let all : IsKeyed c.args.start (behind last r.next) v w (take n out ++ keys_of more) = keyed_run c.args.start from (behind last r.next) v u w (take n out) more i.0 told.far in
     let few' = told.few in
     let room = c.fewer-places.ensures.0 in
     let low = i.2 in
@@ -87,7 +85,7 @@ returns-in-None-clause-keys g c =
     (few (n + r.count) c.put_keys.new.out c.args.out.now (omega (arith, few', room, low, same)) (same ∙ i.3))
 
 pub returns-in-None-clause-past : goal.returns-in-None-clause-past
-returns-in-None-clause-past g c = past c.loop-count.count c.run-run.result.count c.put_keys.new.out c.loop-count.out c.args.out.now c.put_keys.ensures.past c.loop-count.invariant.4
+returns-in-None-clause-past g c = past c.loop-count.count c.fill-filled.result.count c.put_keys.new.out c.loop-count.out c.args.out.now c.put_keys.ensures.past c.loop-count.invariant.4
 
 pub returns-clause-keys : goal.returns-clause-keys
 returns-clause-keys g c =

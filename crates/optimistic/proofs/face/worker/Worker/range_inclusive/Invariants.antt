@@ -1,6 +1,6 @@
 use Rattle.std.specs.Prelude.{◌≡◌, ◌-◌, ◌≤◌, length, take, drop}
 use Rattle.optimistic.specs.tree.Trails.{IsTrail}
-use Rattle.optimistic.proofs.lemmas.face.Scanning.{IsSoFar}
+use Rattle.optimistic.specs.face.Scans.{IsSoFar}
 use Rattle.optimistic.proofs.face.worker.Worker.range_inclusive.Given as goal
 
 abbrev pub invariant-loop-count : goal.invariant-loop-count
