@@ -142,11 +142,7 @@ impl<K: Word64, V: Word64> Congee<K, V> {
     }
 
     /// A worker that was given back goes on: it knows what it knew.
-    pub fn resume(
-        &self,
-        alloc: Global,
-        last: Retired,
-    ) -> Result<WordWorker<'_, K, V>, AllocError>
+    pub fn resume(&self, alloc: Global, last: Retired) -> Result<WordWorker<'_, K, V>, AllocError>
         requires { last.index ≡ self.now.index.tree.nodes.table.shared.table_id }
         ensures { IfOk result (λ w. w ≡ last) }
     {
