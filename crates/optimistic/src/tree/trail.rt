@@ -16,7 +16,7 @@ use crate::words::Hand;
 /// The most nodes on the way to a key.
 const LEVELS: usize = 8;
 
-/// How many nodes are asked for a key, up from the last one and down again, before all begins anew.
+/// How many nodes are asked for a key, up from the last one and down again, before the way from the root is.
 pub const LOOKS: u32 = 20;
 
 /// Where the next key is told: by the last node of a trail, by one above it, or by one below it.
