@@ -81,10 +81,22 @@ PARTS = {
     "unlocked": ("threads", ["unlocked", "congee", "mutex", "rwlock"]),
     "ranges": ("ranges", ["unlocked", "congee", "mutex", "rwlock"]),
     "words": ("memory", ["unlocked"]),
+    "churn": ("churn", ["unlocked"]),
+    "opening": ("opening", ["unlocked"]),
     "stepped": ("threads", ["stepped", "congee", "mutex", "rwlock"]),
     "collector": ("collector", ["ours", "crossbeam-epoch"]),
     "machine": ("machine", ["ours", "btree"]),
     "program": ("program", ["ours", "congee"]),
+}
+
+
+# What keys come and go by.
+LOADS = {
+    "queue": "queue: one worker appends, another takes the oldest out",
+    "window": "window: each puts in or takes out, at random",
+    "shifts": "shifts: a new worker for each thousand calls",
+    "wheel": "wheel of timers: the first is taken out, another is set",
+    "tides": "tides: all are put in, and all taken out",
 }
 
 
@@ -189,6 +201,38 @@ def ranges(part, show):
     return [*by_threads(part, show), "", said]
 
 
+def churn(part, show):
+    """Keys that come and go: words wanted and in use, with how many of those wanted are enough, and the time of a call."""
+    of = lambda kind, threads, call: part.cells.get((part.kept["rows"][0][0], kind, threads, call, part.ours))
+    lines = ["| Load, words wanted; in use at the end, times enough; ns a call | One worker | Two | Four |", "|---|---|---|---|"]
+    for kind in ("dense", "scattered"):
+        for load, words in LOADS.items():
+            wanted, cells = of(kind, 1, f"{load}-wanted"), []
+            for threads in (1, 2, 4):
+                used, times, nanos = (of(kind, threads, f"{load}{it}") for it in ("-used", "-times", ""))
+                cells.append(f"{used:,.0f}, {times:.2f}; {show(nanos)}" if nanos else "")
+            if any(cells):
+                lines.append(f"| {words}, {kind}; {wanted:,.0f} | {' | '.join(cells)} |")
+    cells = [(kind, threads, load) for kind in ("dense", "scattered") for load in LOADS for threads in (1, 2, 4)]
+    times = lambda it: of(it[0], it[1], f"{it[2]}-used") / of(it[0], 1, f"{it[2]}-wanted")
+    more = lambda it: (of(it[0], it[1], f"{it[2]}-used") - of(it[0], 1, f"{it[2]}-used")) / it[1]
+    named = lambda it: f"{it[2]}, {it[0]} keys, {it[1]} workers"
+    most, worst = max(cells, key=times), max(cells, key=more)
+    said = f"The worst cell has {ratio(times(most))} times the words wanted in use ({named(most)}). Beyond those that one worker has in use, each of"
+    said += f" several takes {more(worst):,.0f} at most ({named(worst)}). With {max(of(it[0], it[1], f'{it[2]}-times') for it in cells):.2f} times"
+    said += " the words wanted no call of any was refused."
+    return [*lines, "", said]
+
+
+def opening(part):
+    """What it takes to open an index."""
+    lines = ["| Words | Time | Resident | Resident at most |", "|---|---|---|---|"]
+    for words in dict.fromkeys(row[0] for row in part.rows()):
+        of = lambda call: part.cells[(words, "-", 1, call, part.ours)]
+        lines.append(f"| {words:,} | {of('open') / 1e6:,.0f} ms | {of('open-resident') / 1e6:,.0f} MB | {of('open-peak') / 1e6:,.0f} MB |")
+    return lines
+
+
 def tables(parts):
     some = lambda name, draw, show, *more: draw(parts[name], show, *more) if name in parts else ["Not measured yet."]
     return {
@@ -197,6 +241,8 @@ def tables(parts):
         "further": some("further", further, time_of),
         "versions": some("versions", by_kinds, time_of, lambda versions: True, "versions", "rows"),
         "words": some("words", by_kinds, time_of, lambda keys: True),
+        "churn": some("churn", churn, time_of),
+        "opening": opening(parts["opening"]) if "opening" in parts else ["Not measured yet."],
         "machine": some("machine", by_kinds, time_of, lambda keys: True),
         "unlocked": some("unlocked", by_threads, micros),
         "ranges": some("ranges", ranges, micros),
@@ -204,7 +250,7 @@ def tables(parts):
         "collector": some("collector", by_threads, time_of),
         "program": some("program", by_threads, time_of),
         "runs": ["| Part | Day | Machine | Rounds |", "|---|---|---|---|"]
-        + [f"| {name} | {it.kept['day']} | {it.kept['machine']} | {it.kept['rounds']} |" for name, it in parts.items()],
+        + [f"| {name} | {it.kept['day']} | {it.kept['machine']} | {it.kept['rounds']}{', unproved' if 'unproved' in it.kept else ''} |" for name, it in parts.items()],
     }
 
 

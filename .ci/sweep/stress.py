@@ -9,6 +9,7 @@ longer than it should has hung. Then one answer in a hundred of a kind is change
 line is 'N passed, M failed'."""
 import os
 import pathlib
+import re
 import shutil
 import subprocess
 import sys
@@ -21,7 +22,8 @@ THREADS = (2, 4, 8)
 SECONDS = 30
 # How long a run may take beyond its time, since other work makes the last round and its judging longer.
 MORE_SECONDS = 120
-# The kinds of calls whose answer can be changed: the beginning of a walk, the words in use and a new worker tell nothing that is held.
+# The kinds of calls whose answer can be changed: the beginning of a walk tells nothing, nor does a new worker, and the words in use are
+# not held to more than there are.
 KINDS = [it for it in range(1, 34) if it != 30]
 LIE_SECONDS = 60
 # A library of the project that the program uses, and those below it.
@@ -35,14 +37,14 @@ def build(room):
     for file in HERE.glob("*.rt.txt"):
         shutil.copyfile(file, room / "src" / file.name[: -len(".txt")])
     built = {it: TOP / f"crates/{it}/out/rlib" for it in LIBRARIES}
-    words = [KIT / "bin/rattle", "build", "--crate-name", "stress", "src/main.rt", "--extern", f"std={KIT}/rlibs/std.rlib"]
-    words += ["--extern", f"{LIBRARIES[0]}={built[LIBRARIES[0]]}/{LIBRARIES[0]}.rlib"]
+    words = [KIT / "bin/rattle", "build", "--crate-name", "stress", "src/main.rt"]
+    words += ["--extern", f"std={KIT}/rlibs/std.rlib", "--extern", f"optimistic={built['optimistic']}/optimistic.rlib"]
     for folder in [*built.values(), KIT / "rlibs"]:
         words += ["-L", f"dependency={folder}"]
     words += ["--antt-project", KIT / "rattle/logic/antt-project.json", "--logic-built", KIT / "logic_built"]
     words += ["--toolchain", KIT / "toolchain", "--jobs", "2", "-o", room / "main.o"]
     subprocess.run(words, cwd=room, stdin=subprocess.DEVNULL, check=True)
-    files = [room / "main.o", HERE / "draw.c", HERE / "judge.c", KIT / "c/libos_c.a", KIT / "c/liblibc_c.a"]
+    files = [room / "main.o", HERE / "draw.c", HERE / "judge.c", *(KIT / f"c/{it}.a" for it in ("libos_c", "liblibc_c"))]
     subprocess.run([compiler, "-O2", "-o", room / "stress", *files, "-lpthread", "-ldl", "-lm"], check=True)
     return room / "stress"
 
@@ -52,27 +54,26 @@ def run(program, seconds, **asked):
     env = {"PATH": os.environ.get("PATH", ""), "STRESS_SECONDS": str(seconds)}
     env.update({f"STRESS_{name.upper()}": str(value) for name, value in asked.items()})
     try:
-        ran = subprocess.run([program], env=env, stdout=subprocess.PIPE, timeout=2 * seconds + MORE_SECONDS, check=False, text=True)
+        how = {"env": env, "stdout": subprocess.PIPE, "timeout": 2 * seconds + MORE_SECONDS, "text": True}
+        ran = subprocess.run([program], check=False, **how)
     except subprocess.TimeoutExpired as late:
         return f"{(late.stdout or b'').decode()}it hung"
     return ran.stdout if ran.returncode == 0 else f"{ran.stdout}it ended with {ran.returncode}"
 
 
 def is_right(name, printed, wanted):
-    """Prints what was seen, and tells whether the last line is as wanted."""
-    last = printed.rstrip().rpartition("\n")[2]
-    passed = wanted(last)
-    print(f"stress: {name}: {'as it must be' if passed else 'FAILED'}: {last if passed else printed}", flush=True)
-    return passed
+    """Prints what was seen, and tells whether the last line is the one that is wanted."""
+    is_last = printed.rstrip().rpartition("\n")[2] == wanted
+    print(f"stress: {name}: {'as it must be' if is_last else 'FAILED'}: {printed.rstrip()}", flush=True)
+    return is_last
 
 
 def main(seconds=SECONDS):
     with tempfile.TemporaryDirectory(prefix="stress-") as folder:
         program = build(pathlib.Path(folder))
-        told = [is_right(f"{threads} threads", run(program, int(seconds), threads=threads), lambda it: it == "wrong 0") for threads in THREADS]
-        lies = {kind: run(program, LIE_SECONDS, lie=kind) for kind in KINDS}
-        unseen = [kind for kind, it in lies.items() if not it.rstrip().rpartition("\n")[2].startswith("wrong ") or it.rstrip().endswith("wrong 0")]
-    told.append(is_right(f"lies of {len(KINDS)} kinds of calls", f"unseen: {unseen}", lambda it: it == "unseen: []"))
+        told = [is_right(f"{it} threads", run(program, int(seconds), threads=it), "wrong 0") for it in THREADS]
+        unseen = [kind for kind in KINDS if not re.search("^wrong [1-9][0-9]*$", run(program, LIE_SECONDS, lie=kind), re.M)]
+    told.append(is_right(f"lies of {len(KINDS)} kinds of calls", f"unseen: {unseen}", "unseen: []"))
     print(f"{told.count(True)} passed, {told.count(False)} failed")
     return 0 if all(told) else 1
 
