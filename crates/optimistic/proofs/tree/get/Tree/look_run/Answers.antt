@@ -11,7 +11,7 @@ use Rattle.optimistic.proofs.lemmas.tree.Alone.{dated}
 use Rattle.optimistic.proofs.lemmas.tree.Reading.{looks_trans}
 use Rattle.optimistic.proofs.lemmas.tree.Runs.{run_there, run_made}
 use Rattle.optimistic.proofs.lemmas.tree.Setting.{place_since}
-use Rattle.optimistic.proofs.lemmas.words.Moments.{width_more}
+use Rattle.optimistic.proofs.lemmas.words.Moments.{since_trans, width_more}
 use Rattle.optimistic.proofs.tree.get.Tree.look_run.Goals as goal
 
 pub load-version-requires-clause-at : goal.load-version-requires-clause-at
