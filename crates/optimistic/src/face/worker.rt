@@ -213,16 +213,23 @@ impl<'t> Worker<'t> {
         self.reshape(write, want)
     }
 
-    /// Makes a write as it changes which nodes there are. Names beyond those that it keeps go to the other workers.
-    fn try_reshape(&mut self, write: Write, want: Want) -> Result<Written, Refusal>
+    /// Makes a write as it changes which nodes there are, with names that the other workers left where it has none.
+    fn reshape_stocked(&mut self, write: Write, want: Want) -> Result<Written, Refusal>
         ensures { IsWritten write self.old self.new result }
     {
         self.free.know(self.pool.stocked());
-        let outcome = match self.reshape(write, want) {
+        match self.reshape(write, want) {
             Err(Refusal::Full) => self.reshape_again(write, want),
             Err(Refusal::Again) => self.reshape_again(write, want),
             done => done,
-        };
+        }
+    }
+
+    /// The same. Names beyond those that it keeps go to the other workers.
+    fn try_reshape(&mut self, write: Write, want: Want) -> Result<Written, Refusal>
+        ensures { IsWritten write self.old self.new result }
+    {
+        let outcome = self.reshape_stocked(write, want);
         if self.free.is_laden() {
             self.trade(Trade::Give);
         }

@@ -10,10 +10,10 @@ use Rattle.optimistic.specs.tree.Drained.{pair_of}
 use Rattle.optimistic.specs.tree.Nexts.{HasNone}
 use Rattle.optimistic.specs.tree.RunsBack.{IsDrainedBack}
 use Rattle.optimistic.specs.face.Calls.{Known, Saw}
-use Rattle.optimistic.specs.face.Scans.{Once, LastBelow, Rise, StoodThroughout, HasKey}
+use Rattle.optimistic.specs.face.Scans.{Lacked, Once, LastBelow, Rise, StoodThroughout, HasKey}
 use Rattle.optimistic.specs.face.ScansBack.{IsScanBack}
 use Rattle.optimistic.proofs.lemmas.face.Knowing.{saw_refl, saw_trans}
-use Rattle.optimistic.proofs.lemmas.face.Scanning.{Lacked, once_from, once_here, either_way, rise_at, rise_both, has_value, never}
+use Rattle.optimistic.proofs.lemmas.face.Scanning.{once_from, once_here, either_way, rise_at, rise_both, has_value, never}
 use Rattle.optimistic.proofs.lemmas.tree.RunsBack.{pairs_both}
 
 -- the keys from one on, down to which all were told, and below another

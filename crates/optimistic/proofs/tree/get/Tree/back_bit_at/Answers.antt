@@ -21,6 +21,9 @@ back_bit_here-requires-clause-set c n =
 pub returns-then-end-byte-clause-looks : goal.returns-then-end-byte-clause-looks
 returns-then-end-byte-clause-looks c a l = looks_trans a c.byte_to-end.new.hand.me.0 c.back_bit_here.new.hand.me.0 (c.byte_to-end.ensures.looks a l) c.back_bit_here.ensures.looks
 
+pub returns-then-end-byte-clause-since : goal.returns-then-end-byte-clause-since
+returns-then-end-byte-clause-since c = since_trans _ _ _ c.byte_to-end.ensures.since c.back_bit_here.ensures.looks.since
+
 pub returns-then-end-byte-clause-shows : goal.returns-then-end-byte-clause-shows
 returns-then-end-byte-clause-shows c a l has = c.back_bit_here.ensures.shows a (c.byte_to-end.ensures.looks a l) (bytes_since c.args.at c.args.bytes.now c.args.places.now a c.args.hand.now.me.0 c.byte_to-end.new.hand.me.0 has c.byte_to-end.ensures.since)
 
