@@ -1,18 +1,17 @@
 -- What a scan has found so far, pair by pair.
 use Rattle.std.proofs.Common.{◌≡◌, ℕ, ◌+◌, ◌-◌, ◌^◌, ◌<◌, ◌≤◌, ◌⊎◌, min, List, [], ◌∷◌, ◌++◌, length, length-append, Option, arith, ap, sym, ◌∙◌, refl, inl, inr, true, false, None, Some}
-use Rattle.std.specs.List.{AllPairs, Contains}
+use Rattle.std.specs.List.{Contains}
 use mathlib.Core.List.{append-nil, append_assoc}
 use Rattle.std.proofs.lemmas.Bool.{cases_lt}
 use Rattle.std.proofs.lemmas.List.Elements.{Contains-append_left, Contains-append_right, Contains-append_cases}
 use Rattle.optimistic.specs.declared.drain.nexts.Pair.{Pair}
-use Rattle.optimistic.specs.declared.tree.whole.Reached.{Reached}
 use Rattle.optimistic.specs.declared.words.rule.Entry.{Entry}
 use Rattle.optimistic.specs.words.Kept.{value_of, StartsWith}
 use Rattle.optimistic.specs.tree.Drained.{IsDrained, pair_of}
 use Rattle.optimistic.specs.tree.Nexts.{HasNone}
 use Rattle.optimistic.specs.tree.Wholes.{IsRange}
 use Rattle.optimistic.specs.face.Calls.{Known, Saw}
-use Rattle.optimistic.specs.face.Scans.{Once, FirstFrom, LastBelow, FirstIn, LastIn, Emptiness, Rise, StoodThroughout, HasKey, Lacked, IsSoFar, IsFilled, IsScan, Counts}
+use Rattle.optimistic.specs.face.Scans.{Once, FirstFrom, LastBelow, FirstIn, LastIn, Emptiness, Rise, StoodThroughout, HasKey, Lacked, IsSoFar, IsScan, Counts}
 use Rattle.optimistic.proofs.lemmas.face.Knowing.{saw_refl, saw_trans}
 use Rattle.optimistic.proofs.lemmas.drain.Keys.{no_pair}
 use Rattle.optimistic.proofs.lemmas.drain.Lists.{drained_none, ascends_both}

@@ -1,9 +1,9 @@
-use Rattle.std.proofs.Common.{◌≡◌, ℕ, ◌+◌, ◌-◌, ◌<◌, ◌≤◌, List, [], Option, Some, IfSome, length, length-drop, take, drop, ap, sym, ◌∙◌, subst, le_refl, rules, arith}
+use Rattle.std.proofs.Common.{◌≡◌, ℕ, ◌-◌, ◌<◌, ◌≤◌, List, [], Option, IfSome, length, length-drop, take, drop, ap, sym, ◌∙◌, subst, le_refl, rules, arith}
 use borrow.Rule.Slice.PartMut.{put_mid}
 use Rattle.std.proofs.lemmas.List.{length-take-le}
 use Rattle.std.proofs.lemmas.Slice.{take-put_mid_below}
 use Rattle.optimistic.specs.declared.drain.nexts.Pair.{Pair}
-use Rattle.optimistic.specs.face.Scans.{IsSoFar, IsFilled}
+use Rattle.optimistic.specs.face.Scans.{IsSoFar}
 use Rattle.optimistic.specs.tree.Runs.{behind}
 use Rattle.optimistic.proofs.lemmas.face.Scanning.{so_far_none, so_far_run, so_far_both, so_far_later}
 use Rattle.optimistic.proofs.lemmas.tree.Few.{take_behind}

@@ -1,4 +1,4 @@
-use Rattle.std.specs.Prelude.{◌≡◌, ℕ, ◌+◌, ◌-◌, ◌<◌, ◌≤◌, length, take, IfSome}
+use Rattle.std.specs.Prelude.{◌≡◌, ◌+◌, ◌-◌, ◌<◌, ◌≤◌, length, take, IfSome}
 use Rattle.optimistic.specs.tree.Runs.{behind}
 use Rattle.optimistic.specs.tree.Trails.{IsTrail}
 use Rattle.optimistic.specs.face.Scans.{IsSoFar}
