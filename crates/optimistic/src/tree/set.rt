@@ -90,6 +90,7 @@ impl Tree {
     }
 
     /// Writes a key at a node that the hand has, and that covers the key, if there is room, and lets the node go.
+    #[inline(always)]
     fn set_there(&self, hand: &mut Hand, at: Place, version: u64, write: Write) -> Set
         requires of { IsOf self.now.nodes.table.shared.table_id hand.old }
         requires at { IsPlace at (view hand.old) }
@@ -130,6 +131,7 @@ impl Tree {
     }
 
     /// The same at a node that may not cover the key.
+    #[inline(always)]
     fn set_locked(&self, hand: &mut Hand, at: Place, version: u64, write: Write) -> Set
         requires of { IsOf self.now.nodes.table.shared.table_id hand.old }
         requires at { IsPlace at (view hand.old) }
