@@ -21,8 +21,6 @@ pub mod counts;
 pub mod driven;
 #[cfg(test)]
 pub mod grace;
-#[cfg(test)]
-pub mod growing;
 pub mod history;
 #[cfg(test)]
 pub mod journal;

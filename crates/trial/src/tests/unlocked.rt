@@ -10,7 +10,6 @@ mod backward;
 mod calls;
 mod churn;
 mod faces;
-mod growing;
 mod histories;
 mod lanes;
 mod many;
